@@ -1,0 +1,5 @@
+pub mod Bytes
+pub mod Checks
+pub mod Octets
+pub mod Output
+pub mod Scan
