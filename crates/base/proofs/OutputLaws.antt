@@ -1,5 +1,5 @@
 -- Laws of writing into lent output. Assumes nothing.
-use Prim.Native.Nat.{ℕ, _+_, _-_, _≤_, _<_}
+use Prim.Native.Nat.{ℕ, _+_, _-_, min, _≤_, _<_}
 use native.Mathlib.Nat.{add-assoc}
 use native.Mathlib.Numerals.{add-one}
 use native.Mathlib.Omega.{arith}
@@ -11,7 +11,7 @@ use lib.ListN.{length, getD, take, drop, set, length-append, length-drop, length
 use lib.Seq.{length-take-le, take-length, drop-drop, take-at, drop-at, paste, paste-suc}
 use borrow.Author.Tests.{leb-true, leb-false, not-true, not-false, le-leb, lt-leb}
 use Rattle.base.specs.Bytes.{Bytes}
-use Rattle.base.specs.Output.{put, Written}
+use Rattle.base.specs.Output.{largest, put, Written}
 
 -- ---- room
 pub room-left : (n at len : ℕ) → at ≤ n → leb len (n - at) ≡ leb (at + len) n
@@ -20,6 +20,14 @@ room-left n at len h = go (leb (at + len) n) refl
     go : (t : Bool) → leb (at + len) n ≡ t → leb len (n - at) ≡ t
     go true e = le-leb len (n - at) (omega (arith, leb-true (at + len) n e))
     go false e = lt-leb len (n - at) (omega (arith, leb-false (at + len) n e))
+
+-- no output is so long that a clamped length would fit and the length itself would not
+pub clamped-room : (n at len : ℕ) → n < largest → leb (at + min len largest) n ≡ leb (at + len) n
+clamped-room n at len h = go (leb (at + len) n) refl
+  where
+    go : (t : Bool) → leb (at + len) n ≡ t → leb (at + min len largest) n ≡ t
+    go true e = le-leb (at + min len largest) n (omega (arith, leb-true (at + len) n e))
+    go false e = lt-leb (at + min len largest) n (omega (arith, leb-false (at + len) n e))
 
 -- what the answer of `has_room` tells
 module _ {r : Bool} (at len n : ℕ) (e : r ≡ leb (at + len) n) where

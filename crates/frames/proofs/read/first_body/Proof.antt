@@ -1,0 +1,64 @@
+-- `frames::read::first_body` meets its contract: the step tells where the body lies. Assumes nothing.
+use Prim.Native.Nat.{_+_, _≤_}
+use native.Mathlib.Omega.{arith}
+use mathlib.Core.Path.{_≡_, sym, _∙_}
+use lib.ListN.{length}
+use borrow.Author.Needs.{needs}
+use denote.Ref.{now}
+use Rattle.frames.proofs.MessageLaws.{no-body, body-is}
+use Rattle.frames.proofs.StepLaws.{step-known}
+use Rattle.frames.specs.Steps.{stepOf}
+use Rattle.frames.specs.declared.step.Step.the-variants.{Frame}
+use Rattle.frames.proofs.read.first_body.Statement.{statement}
+use Rattle.frames.proofs.read.first_body.Tie as tie
+
+told : (c : tie.After-start) → Frame (c .start .given .0 .0) (c .start .given .0 .1 .0) (c .start .given .0 .1 .1 .0) ≡ stepOf (now (c .before .before .before .before .args .s))
+told c = sym (c .start .given .1) ∙ c .before .before .first-frame .ensures
+
+lies : (c : tie.After-start) → (2 ≤ c .start .given .0 .0) × (c .start .given .0 .0 + c .start .given .0 .1 .0 ≤ length (now (c .before .before .before .before .args .s)))
+lies c = step-known _ _ _ _ (told c)
+
+first-frame-requires : tie.Need-first-frame-requires
+first-frame-requires c κs = search needs
+
+enum-known-start : tie.Need-enum-known-start
+enum-known-start c = search needs
+
+enum-told : tie.Need-enum-told
+enum-told c = search needs
+
+slice-aggregate-result : tie.Need-slice-aggregate-result
+slice-aggregate-result c = search needs
+
+returns : tie.Need-returns
+returns c = no-body _ (sym (c .before .enum-told .given .1) ∙ c .before .before .before .first-frame .ensures)
+
+add-result : tie.Need-add-result
+add-result c = omega (arith, lies (c .before))
+
+sub-result : tie.Need-sub-result
+sub-result c = search needs
+
+part-result-start : tie.Need-part-result-start
+part-result-start c = search needs
+
+part-result-end : tie.Need-part-result-end
+part-result-end c = omega (arith, lies (c .before))
+
+returns-2 : tie.Need-returns-2
+returns-2 c = body-is _ _ _ _ (told (c .before .before))
+
+pub first-body-spec : {M : Type 1} → statement M
+first-body-spec =
+    tie.close
+    (tie.spec
+    first-frame-requires
+    enum-known-start
+    enum-told
+    slice-aggregate-result
+    returns
+    add-result
+    sub-result
+    part-result-start
+    part-result-end
+    returns-2)

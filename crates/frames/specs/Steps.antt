@@ -1,0 +1,36 @@
+-- A frame: the flag octet, the size, the body. The flag octet is one of 0, 1, 2 and 3: 1 says that another frame follows, 2 that
+-- the size is eight octets in network order instead of one.
+use Prim.Native.Nat.{ℕ, zero, suc}
+use mathlib.Core.Bool.{Bool, true, false, cond}
+use mathlib.Core.List.{[], _∷_}
+use lib.Dec.{leb}
+use lib.ListN.{length, take, drop}
+use Rattle.base.specs.Bytes.{Bytes}
+use Rattle.base.specs.Octets.{number}
+use Rattle.frames.specs.declared.step.Step.{Step}
+use Rattle.frames.specs.declared.step.Step.the-variants.{Frame, Broken}
+
+-- a body of len bytes behind a head of start bytes, if the bytes that are left behind the head hold it whole
+abbrev pub held : ℕ → ℕ → ℕ → Bool → Step
+held start len left more = cond (leb len left) (Frame start len more) Broken
+
+-- a size of one octet; of eight. The bytes are those behind the flag octet
+unfoldable pub shortOf : Bool → Bytes → Step
+shortOf more [] = Broken
+shortOf more (size ∷ rest) = held 2 size (length rest) more
+
+unfoldable pub longOf : Bool → Bytes → Step
+longOf more s = cond (leb 8 (length s)) (held 9 (number (take 8 s)) (length (drop 8 s)) more) Broken
+
+-- by the flag octet
+unfoldable pub flagged : ℕ → Bytes → Step
+flagged zero s = shortOf false s
+flagged (suc zero) s = shortOf true s
+flagged (suc (suc zero)) s = longOf false s
+flagged (suc (suc (suc zero))) s = longOf true s
+flagged (suc (suc (suc (suc _)))) s = Broken
+
+-- the frame that some bytes begin with
+unfoldable pub stepOf : Bytes → Step
+stepOf [] = Broken
+stepOf (flag ∷ s) = flagged flag s
