@@ -1,12 +1,12 @@
 -- Numbers as octets in network order: the first octet weighs most.
 use Prim.Native.Nat.{ℕ, zero, suc, _+_, _*_, _/_, _%_}
-use mathlib.Core.List.{List, [], _∷_, _++_}
 use mathlib.Core.Bool.{cond}
-use lib.ListN.{length, getD}
+use mathlib.Core.List.{[], _∷_, _++_}
 use lib.Dec.{eqb}
+use lib.ListN.{length, getD}
 use Rattle.base.specs.Bytes.{Bytes}
-use Rattle.base.specs.declared.octets.Eight.{Eight}
 use Rattle.base.specs.declared.octets.Eight.the-variants.{Number, Other}
+use Rattle.base.specs.declared.octets.Eight.{Eight}
 
 -- the number that some octets are behind a number that stands before them
 unfoldable pub numberFrom : ℕ → Bytes → ℕ

@@ -1,0 +1,3 @@
+pub mod KeyLaws
+pub mod NumberLaws
+pub mod OrderLaws

@@ -1,0 +1,6 @@
+pub mod Keys
+pub mod KeyScan
+pub mod Lengths
+pub mod Numbers
+pub mod Order
+pub mod Words

@@ -1,0 +1,31 @@
+-- A sequence is eight octets in network order; kept numbers are 0 to 2^63 - 1. A tick is in milliseconds, 0 to 2^62.
+use Prim.Native.Nat.{ℕ}
+use mathlib.Core.Bool.{Bool, cond}
+use lib.Dec.{leb, eqb}
+use lib.ListN.{length}
+use Rattle.base.specs.Bytes.{Bytes}
+use Rattle.base.specs.Octets.{number}
+use Rattle.names.specs.declared.numbers.Numbered.the-variants.{By, Unnumbered}
+use Rattle.names.specs.declared.numbers.Numbered.{Numbered}
+use Rattle.names.specs.declared.numbers.Sequence.{Sequence}
+use Rattle.names.specs.declared.numbers.Tick.{Tick}
+
+abbrev pub maxSequence : ℕ
+maxSequence = 9223372036854775807
+
+abbrev pub maxTick : ℕ
+maxTick = 4611686018427387904
+
+-- a number as a sequence
+abbrev pub sequence : ℕ → Sequence
+sequence n = record { 0 = n }
+
+-- what a sequence frame says
+abbrev pub numberedOf : Bytes → Numbered
+numberedOf s = cond (eqb (length s) 8) (By (sequence (number s))) Unnumbered
+
+abbrev pub isKept : Sequence → Bool
+isKept n = leb (n .0) maxSequence
+
+abbrev pub isTime : Tick → Bool
+isTime t = leb (t .0) maxTick
