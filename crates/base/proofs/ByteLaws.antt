@@ -2,14 +2,14 @@
 use Prim.Native.Nat.{ℕ, suc, _+_, _≤_, _<_}
 use native.Mathlib.Numerals.{add-one}
 use native.Mathlib.Omega.{arith}
-use mathlib.Core.Bool.{Bool, true, false, cond, _&&_, and-false}
-use mathlib.Core.List.{List, [], _∷_}
+use mathlib.Core.Bool.{Bool, true, false, _&&_, and-false}
+use mathlib.Core.List.{[], _∷_}
 use mathlib.Core.Path.{_≡_, refl, sym, ap, ap₂, _∙_}
 use lib.Dec.{eqb}
 use lib.ListN.{length, getD, drop, drop-of-length-le}
 use lib.Seq.{drop-cons}
 use borrow.Author.Tests.{eqb-true, eq-eqb, ne-eqb}
-use Rattle.base.specs.Bytes.{Bytes, isNil, prefix, same, onFirst, pieces}
+use Rattle.base.specs.Bytes.{Bytes, prefix, same}
 
 -- both halves of a conjunction that holds
 pub and-left : (a b : Bool) → (a && b) ≡ true → a ≡ true
@@ -70,15 +70,3 @@ same-eq [] (y ∷ b) e = cc
 same-eq (x ∷ a) [] e = cc
 same-eq (x ∷ a) (y ∷ b) e =
     ap₂ _∷_ (eqb-true x y (and-left (eqb x y) (same a b) e)) (same-eq a b (and-right (eqb x y) (same a b) e))
-
--- ---- pieces
--- some bytes have one piece or more
-pub pieces-some : (sep : ℕ) (s : Bytes) → isNil (pieces sep s) ≡ false
-unfolding pieces
-pieces-some sep [] = refl
-pieces-some sep (b ∷ s) = go (eqb b sep) (pieces sep s)
-  where
-    go : (t : Bool) (ps : List Bytes) → isNil (cond t ([] ∷ ps) (onFirst b ps)) ≡ false
-    go true ps = refl
-    go false [] = refl
-    go false (p ∷ ps) = refl

@@ -4,7 +4,7 @@ use Prim.Native.Char.{code}
 use Prim.Native.Nat.{ℕ}
 use Prim.Native.String as Text
 use Prim.Native.String.{String}
-use mathlib.Core.Bool.{Bool, true, false, cond, _&&_, _||_}
+use mathlib.Core.Bool.{Bool, true, false, _&&_, _||_}
 use mathlib.Core.List.{List, [], _∷_}
 use lib.Dec.{eqb}
 
@@ -41,13 +41,3 @@ holds b (x ∷ s) = eqb x b || holds b s
 unfoldable pub every : {A : Type 0} → (A → Bool) → List A → Bool
 every test [] = true
 every test (x ∷ s) = test x && every test s
-
--- a byte in front of the first of some pieces
-abbrev pub onFirst : ℕ → List Bytes → List Bytes
-onFirst b [] = (b ∷ []) ∷ []
-onFirst b (p ∷ ps) = (b ∷ p) ∷ ps
-
--- the pieces between the separators: some bytes cut at each byte that is sep
-unfoldable pub pieces : ℕ → Bytes → List Bytes
-pieces sep [] = [] ∷ []
-pieces sep (b ∷ s) = cond (eqb b sep) ([] ∷ pieces sep s) (onFirst b (pieces sep s))

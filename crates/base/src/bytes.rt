@@ -1,6 +1,7 @@
-// Comparing bytes.
+// Comparing bytes, and finding one.
 ghost use mathlib.Core.Path.{_≡_};
 ghost use Rattle.base.specs.Bytes.{prefix, same};
+ghost use Rattle.base.specs.Cuts.{foundOf};
 
 // Whether s begins with p.
 pub fn starts_with(s: &[u8], p: &[u8]) -> bool
@@ -27,4 +28,24 @@ pub fn same_bytes(a: &[u8], b: &[u8]) -> bool
         return false;
     }
     starts_with(b, a)
+}
+
+// Where a byte is first found.
+pub enum Found {
+    At(usize),
+    Nowhere,
+}
+
+// The first place of s at which b stands.
+pub fn find_byte(s: &[u8], b: u8) -> Found
+    ensures { λ r. ⌜ r ≡ foundOf b (now (s .entry)) ⌝ }
+{
+    let mut i = 0;
+    while i < s.len() {
+        if s[i] == b {
+            return Found::At(i);
+        }
+        i += 1;
+    }
+    Found::Nowhere
 }

@@ -9,8 +9,9 @@ use mathlib.Core.Option.{Option, none, some, Option·map}
 use mathlib.Core.Path.{_≡_, refl, sym, ap, _∙_}
 use lib.ListN.{length, getD, take, drop, length-drop}
 use lib.Seq.{drop-drop}
+use Rattle.base.proofs.CutLaws.{tail-part}
 use Rattle.base.specs.Bytes.{Bytes, same}
-use Rattle.frames.proofs.StepLaws.{Sound, step-sound, step-known, tail-part, step-none}
+use Rattle.frames.proofs.StepLaws.{Sound, step-sound, step-known, step-none}
 use Rattle.frames.specs.Messages.{bodyOf, restOf, last, through, readUpTo, framesIn, counted, framingOf, bodyAt}
 use Rattle.frames.specs.Steps.{stepOf}
 use Rattle.frames.specs.declared.read.Framing.the-variants.{Frames, Unsound}

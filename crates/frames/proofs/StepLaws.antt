@@ -6,8 +6,9 @@ use mathlib.Core.List.{[], _∷_}
 use mathlib.Core.Path.{_≡_, refl, sym, ap, _∙_, subst}
 use lib.Dec.{leb}
 use lib.ListN.{length, getD, take, drop, length-drop}
-use lib.Seq.{length-take-le, take-all}
+use lib.Seq.{length-take-le}
 use borrow.Author.Tests.{leb-true, le-leb, lt-leb, eq-eqb}
+use Rattle.base.proofs.CutLaws.{tail-part}
 use Rattle.base.specs.Bytes.{Bytes}
 use Rattle.base.specs.Octets.{number, eightOf}
 use Rattle.base.specs.declared.octets.Eight.the-variants.{Number, Other}
@@ -58,10 +59,6 @@ pub step-known : (s : Bytes) (start len : ℕ) (more : Bool) → Frame start len
 step-known s start len more e = subst (Sound (length s)) (sym e) (step-sound s)
 
 -- ---- the step, as the code reads it
--- the bytes from a place on, as a part
-pub tail-part : (s : Bytes) (at : ℕ) → take (length s - at) (drop at s) ≡ drop at s
-tail-part s at = take-all (length s - at) (drop at s) (simp length-drop (omega arith))
-
 pub step-none : (s : Bytes) → length s ≡ 0 → stepOf s ≡ Broken
 unfolding stepOf
 step-none [] h = refl

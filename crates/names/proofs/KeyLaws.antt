@@ -7,8 +7,9 @@ use mathlib.Core.Path.{_≡_, refl, sym, ap, _∙_}
 use lib.Dec.{leb, eqb}
 use lib.ListN.{length, getD, take}
 use borrow.Author.Tests.{eqb-true, le-leb, lt-leb, eq-eqb, ne-eqb}
-use Rattle.base.proofs.ByteLaws.{pieces-some}
-use Rattle.base.specs.Bytes.{Bytes, isNil, holds, every, onFirst, pieces}
+use Rattle.base.proofs.CutLaws.{pieces-some}
+use Rattle.base.specs.Bytes.{Bytes, isNil, holds, every}
+use Rattle.base.specs.Cuts.{onFirst, pieces}
 use Rattle.base.specs.Scan.{run}
 use Rattle.names.specs.KeyScan.{keyNext, inName}
 use Rattle.names.specs.Keys.{isName, slashed, isKey, isSubtree}

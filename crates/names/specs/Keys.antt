@@ -4,7 +4,8 @@ use mathlib.Core.Bool.{Bool, false, not, _&&_, _||_}
 use mathlib.Core.List.{List, [], _∷_}
 use lib.Dec.{leb, eqb}
 use lib.ListN.{length, getD, take}
-use Rattle.base.specs.Bytes.{Bytes, isNil, prefix, holds, every, pieces}
+use Rattle.base.specs.Bytes.{Bytes, isNil, prefix, holds, every}
+use Rattle.base.specs.Cuts.{pieces}
 
 -- a name of a key: one or more bytes, none of them zero. It holds no slash, being cut out between slashes
 abbrev pub isName : Bytes → Bool

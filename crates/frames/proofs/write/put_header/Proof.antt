@@ -2,6 +2,7 @@
 use native.Mathlib.Omega.{arith}
 use borrow.Author.Needs.{needs}
 use borrow.Author.Tests.{le-leb, lt-leb}
+use Rattle.base.specs.Cuts.{before}
 use Rattle.base.specs.Octets.{octets}
 use Rattle.frames.proofs.FrameLaws.{listed-octets}
 use Rattle.frames.proofs.write.put_header.Statement.{statement}
