@@ -11,8 +11,8 @@ use lib.Seq.{take-all, drop-cons}
 use borrow.Author.Tests.{eq-eqb, ne-eqb}
 use Rattle.base.specs.Bytes.{Bytes, isNil, holds}
 use Rattle.base.specs.Cuts.{later, foundOf, before, behind, onFirst, pieces}
-use Rattle.base.specs.declared.bytes.Found.the-variants.{At, Nowhere}
-use Rattle.base.specs.declared.bytes.Found.{Found}
+use Rattle.base.specs.declared.bytes.Position.the-variants.{At, Nowhere}
+use Rattle.base.specs.declared.bytes.Position.{Position}
 
 -- ---- the bytes from a place on, as a part
 pub tail-part : (s : Bytes) (at : ℕ) → take (length s - at) (drop at s) ≡ drop at s
@@ -23,19 +23,19 @@ tail-length s at = ap length (tail-part s at) ∙ length-drop at s
 
 -- ---- a search from the front, i bytes being passed
 -- a place that counts from the i bytes passed
-abbrev pub further : ℕ → Found → Found
+abbrev pub further : ℕ → Position → Position
 further i (At j) = At (i + j)
 further i Nowhere = Nowhere
 
-further-later : (i : ℕ) (x : Found) → further i (later x) ≡ further (i + 1) x
+further-later : (i : ℕ) (x : Position) → further i (later x) ≡ further (i + 1) x
 further-later i (At j) = ap At (omega arith)
 further-later i Nowhere = refl
 
-pub further-none : (x : Found) → x ≡ further 0 x
+pub further-none : (x : Position) → x ≡ further 0 x
 further-none (At j) = ap At (omega arith)
 further-none Nowhere = refl
 
-module _ (b : ℕ) (s : Bytes) (i : ℕ) (x : Found) (h : x ≡ further i (foundOf b (drop i s))) where
+module _ (b : ℕ) (s : Bytes) (i : ℕ) (x : Position) (h : x ≡ further i (foundOf b (drop i s))) where
   pub find-turn : i < length s → (getD s i 0 ≡ b → ⊥) → x ≡ further (i + 1) (foundOf b (drop (i + 1) s))
   unfolding foundOf
   find-turn l e = h ∙ rw (drop-cons s i 0 l, ne-eqb (getD s i 0) b e, add-one i) (rw (add-one i) at (further-later i (foundOf b (drop (suc i) s))))
@@ -77,7 +77,7 @@ unfolding foundOf
 cut-at b [] i e = absurd (let z : _≡_ {A = ℕ} 0 1 = cc in omega arith)
 cut-at b (x ∷ s) i e = go (eqb x b) refl (foundOf b s) (λ j k. cut-at b s j k) e
   where
-    go : (t : Bool) → eqb x b ≡ t → (f : Found) → ((j : ℕ) → At j ≡ f → CutAt b s j) → At i ≡ cond t (At 0) (later f) → CutAt b (x ∷ s) i
+    go : (t : Bool) → eqb x b ≡ t → (f : Position) → ((j : ℕ) → At j ≡ f → CutAt b s j) → At i ≡ cond t (At 0) (later f) → CutAt b (x ∷ s) i
     go true t f ih e = let z : i ≡ 0 = cc in rw z (here b x s t)
     go false t (At j) ih e = let z : i ≡ suc j = cc in rw z (there b x s j t (ih j refl))
     go false t Nowhere ih e = absurd (let z : _≡_ {A = ℕ} 0 1 = cc in omega arith)
@@ -92,7 +92,7 @@ unfolding foundOf holds pieces
 uncut b [] e = record { free = refl; whole = refl }
 uncut b (x ∷ s) e = go (eqb x b) refl (foundOf b s) (λ k. uncut b s k) e
   where
-    go : (t : Bool) → eqb x b ≡ t → (f : Found) → (Nowhere ≡ f → Uncut b s) → Nowhere ≡ cond t (At 0) (later f) → Uncut b (x ∷ s)
+    go : (t : Bool) → eqb x b ≡ t → (f : Position) → (Nowhere ≡ f → Uncut b s) → Nowhere ≡ cond t (At 0) (later f) → Uncut b (x ∷ s)
     go true t f ih e = absurd (let z : _≡_ {A = ℕ} 0 1 = cc in omega arith)
     go false t (At j) ih e = absurd (let z : _≡_ {A = ℕ} 0 1 = cc in omega arith)
     go false t Nowhere ih e = record { free = rw t (ih refl .free); whole = rw (t, ih refl .whole) }

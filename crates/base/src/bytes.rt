@@ -31,21 +31,21 @@ pub fn same_bytes(a: &[u8], b: &[u8]) -> bool
 }
 
 // Where a byte is first found.
-pub enum Found {
+pub enum Position {
     At(usize),
     Nowhere,
 }
 
 // The first place of s at which b stands.
-pub fn find_byte(s: &[u8], b: u8) -> Found
+pub fn find_byte(s: &[u8], b: u8) -> Position
     ensures { λ r. ⌜ r ≡ foundOf b (now (s .entry)) ⌝ }
 {
     let mut i = 0;
     while i < s.len() {
         if s[i] == b {
-            return Found::At(i);
+            return Position::At(i);
         }
         i += 1;
     }
-    Found::Nowhere
+    Position::Nowhere
 }

@@ -10,7 +10,7 @@ use borrow.Author.Tests.{not-true, not-false}
 use Rattle.base.proofs.CutLaws.{tail-part, cut-at, uncut}
 use Rattle.base.specs.Bytes.{Bytes, ascii, isNil, same}
 use Rattle.base.specs.Cuts.{foundOf, before}
-use Rattle.base.specs.declared.bytes.Found.the-variants.{At, Nowhere}
+use Rattle.base.specs.declared.bytes.Position.the-variants.{At, Nowhere}
 use Rattle.properties.specs.Decimals.{decimalOf}
 use Rattle.properties.specs.Lines.{lineWith, lineOf}
 use Rattle.properties.specs.Properties.{propertyIn}

@@ -10,7 +10,7 @@ use borrow.Author.Tests.{le-leb, lt-leb}
 use Rattle.base.proofs.CutLaws.{tail-part, cut-at, uncut, pieces-some}
 use Rattle.base.specs.Bytes.{Bytes, ascii, isNil, same}
 use Rattle.base.specs.Cuts.{foundOf, pieces}
-use Rattle.base.specs.declared.bytes.Found.the-variants.{At, Nowhere}
+use Rattle.base.specs.declared.bytes.Position.the-variants.{At, Nowhere}
 use Rattle.properties.specs.Decimals.{decimalOf}
 use Rattle.properties.specs.Lines.{lineWith, lineFor, lineOf, withLine}
 use Rattle.properties.specs.Properties.{both, Property, ended, propertyIn, eachOf, propertiesIn, ttls, lifetimeOf, judged, propertiesOf}

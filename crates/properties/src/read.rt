@@ -2,7 +2,7 @@
 use crate::decimal;
 use crate::decimal::Decimal;
 use base::bytes;
-use base::bytes::Found;
+use base::bytes::Position;
 ghost use mathlib.Core.Path.{_≡_};
 ghost use Rattle.properties.specs.Properties.{propertiesOf};
 ghost use Rattle.properties.specs.Lines.{lineOf, withLine};
@@ -36,10 +36,10 @@ pub(crate) enum Line {
 fn read_line(line: &[u8]) -> Line
     ensures { λ r. ⌜ r ≡ lineOf (now (line .entry)) ⌝ }
 {
-    let Found::Nowhere = bytes::find_byte(line, 0) else {
+    let Position::Nowhere = bytes::find_byte(line, 0) else {
         return Line::Bad;
     };
-    let Found::At(sign) = bytes::find_byte(line, b'=') else {
+    let Position::At(sign) = bytes::find_byte(line, b'=') else {
         return Line::Bad;
     };
     if sign == 0 {
@@ -78,7 +78,7 @@ pub fn read_properties(s: &[u8]) -> Properties
     let mut rest = s;
     let mut lifetime = Lifetime::Unlimited;
     while 0 < rest.len() {
-        let Found::At(end) = bytes::find_byte(rest, b'\n') else {
+        let Position::At(end) = bytes::find_byte(rest, b'\n') else {
             return Properties::Malformed;
         };
         let Properties::Good(next) = add_line(lifetime, &rest[..end]) else {

@@ -4,6 +4,7 @@ use native.Mathlib.Omega.{arith}
 use mathlib.Core.Path.{sym}
 use borrow.Author.Tests.{lt-leb}
 use Rattle.base.proofs.OutputLaws.{room-left, room}
+use Rattle.base.specs.Cuts.{before}
 use Rattle.base.proofs.output.has_room.Statement.{statement}
 use Rattle.base.proofs.output.has_room.Tie as tie
 
