@@ -1,5 +1,5 @@
 -- Laws of a table of checks. Assumes nothing.
-use mathlib.Core.Bool.{Bool, true, false}
+use mathlib.Core.Bool.{Bool, true, false, cond}
 use mathlib.Core.List.{List, [], _∷_}
 use mathlib.Core.Option.{Option, none, some}
 use mathlib.Core.Path.{_≡_, sym, _∙_}
@@ -22,3 +22,10 @@ module _ {R A : Type 0} {f : Option R → A} {x : A} where
   pub done : Left f x [] → f none ≡ x
   unfolding firstOf
   done h = sym (h .is)
+
+  -- checks that go by a test
+  pub chosen-first : {test : Bool} (a b : List (Check R)) → Left f x (cond test a b) → test ≡ true → Left f x a
+  chosen-first a b h e = record { is = h .is ∙ rw e }
+
+  pub chosen-second : {test : Bool} (a b : List (Check R)) → Left f x (cond test a b) → test ≡ false → Left f x b
+  chosen-second a b h e = record { is = h .is ∙ rw e }

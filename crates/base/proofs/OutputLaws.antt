@@ -29,6 +29,10 @@ clamped-room n at len h = go (leb (at + len) n) refl
     go true e = le-leb (at + min len largest) n (omega (arith, leb-true (at + len) n e))
     go false e = lt-leb (at + min len largest) n (omega (arith, leb-false (at + len) n e))
 
+-- a sum of clamped lengths, clamped, is the sum, clamped
+pub clamped-sum : (a b : ℕ) {x y r : ℕ} → x ≡ min a largest → y ≡ min b largest → r ≡ min (x + y) largest → r ≡ min (a + b) largest
+clamped-sum a b e f g = omega arith
+
 -- what the answer of `has_room` tells
 module _ {r : Bool} (at len n : ℕ) (e : r ≡ leb (at + len) n) where
   pub has-room : not r ≡ false → at + len ≤ n

@@ -3,7 +3,7 @@ use Prim.Native.Nat.{ℕ, _+_, min, _≤_, _<_}
 use native.Mathlib.Omega.{arith}
 use mathlib.Core.Bool.{Bool, true, false, cond}
 use mathlib.Core.List.{List, [], _∷_, _++_, append-assoc, append-nil}
-use mathlib.Core.Option.{Option, some, Option·map}
+use mathlib.Core.Option.{some, Option·map}
 use mathlib.Core.Path.{_≡_, refl, sym, ap, _∙_}
 use lib.Dec.{leb}
 use lib.ListN.{length, getD, take, drop, length-append}
@@ -15,7 +15,7 @@ use Rattle.base.specs.Bytes.{Bytes}
 use Rattle.base.specs.Octets.{octets}
 use Rattle.base.specs.Output.{largest}
 use Rattle.frames.proofs.MessageLaws.{frames-step}
-use Rattle.frames.specs.Messages.{last, through, framesIn, flagOf, frameLength, frame, encode}
+use Rattle.frames.specs.Messages.{bodyOf, restOf, framesIn, flagOf, frameLength, frame, encode}
 use Rattle.frames.specs.Steps.{shortOf, longOf, flagged, stepOf}
 use Rattle.frames.specs.declared.step.Step.the-variants.{Frame}
 
@@ -58,40 +58,50 @@ unfolding stepOf flagged
 step-long true n s k h = long-is true n s k h
 step-long false n s k h = long-is false n s k h
 
--- a frame and the bytes behind it, which f reads
-module _ (f : Bytes → Option (List Bytes)) (b rest : Bytes) where
-  abbrev pub behind : Bool → Option (List Bytes)
-  behind true = Option·map (λ (bodies : List Bytes). b ∷ bodies) (f rest)
-  behind false = last b rest
+-- some bytes begin with a frame of the body b, and rest stands behind it
+pub record Begins (s : Bytes) (more : Bool) (b rest : Bytes) : Type 0 where
+  pub start : ℕ
+  pub step : stepOf s ≡ Frame start (length b) more
+  pub body : take (length b) (drop start s) ≡ b
+  pub after : drop (length b) (drop start s) ≡ rest
 
-  through-frame : (more : Bool) (s : Bytes) (start len : ℕ) → take len (drop start s) ≡ b → drop len (drop start s) ≡ rest
-      → through f s (Frame start len more) ≡ behind more
-  through-frame true s start len e g = rw (e, g)
-  through-frame false s start len e g = rw (e, g)
+pub frame-begins : (more : Bool) (b rest : Bytes) → length b < 18446744073709551616 → Begins (frame more b ++ rest) more b rest
+unfolding frame
+frame-begins more b rest h = go (leb (length b) 255)
+  where
+    n : ℕ
+    n = length b
 
-  pub read-frame : (more : Bool) → length b < 18446744073709551616
-      → through f (frame more b ++ rest) (stepOf (frame more b ++ rest)) ≡ behind more
-  unfolding frame
-  read-frame more h = go (leb (length b) 255)
-    where
-      n : ℕ
-      n = length b
+    fits : n ≤ length (b ++ rest)
+    fits = omega (arith, length-append b rest)
 
-      fits : n ≤ length (b ++ rest)
-      fits = omega (arith, length-append b rest)
+    behind-size : drop 8 (octets 8 n ++ (b ++ rest)) ≡ b ++ rest
+    behind-size = drop-at (octets 8 n) (b ++ rest) 8 (length-octets 8 n)
 
-      go : (t : Bool)
-          → through f ((cond t (flagOf more false ∷ n ∷ []) (flagOf more true ∷ octets 8 n) ++ b) ++ rest)
-          (stepOf ((cond t (flagOf more false ∷ n ∷ []) (flagOf more true ∷ octets 8 n) ++ b) ++ rest))
-          ≡ behind more
-      go true =
-          rw (step-short more n (b ++ rest) fits)
-          (through-frame more (flagOf more false ∷ n ∷ b ++ rest) 2 n (take-append-seam b rest) (drop-append-seam b rest))
-      go false =
-          rw (append-assoc (octets 8 n) b rest, step-long more n (b ++ rest) h fits)
-          (through-frame more (flagOf more true ∷ octets 8 n ++ (b ++ rest)) 9 n
-          (rw (drop-at (octets 8 n) (b ++ rest) 8 (length-octets 8 n)) (take-append-seam b rest))
-          (rw (drop-at (octets 8 n) (b ++ rest) 8 (length-octets 8 n)) (drop-append-seam b rest)))
+    go : (t : Bool) → Begins ((cond t (flagOf more false ∷ n ∷ []) (flagOf more true ∷ octets 8 n) ++ b) ++ rest) more b rest
+    go true = record { start = 2; step = step-short more n (b ++ rest) fits; body = take-append-seam b rest; after = drop-append-seam b rest }
+    go false =
+        rw (append-assoc (octets 8 n) b rest)
+        (record {
+          start = 9;
+          step = step-long more n (b ++ rest) h fits;
+          body = rw behind-size (take-append-seam b rest);
+          after = rw behind-size (drop-append-seam b rest);
+        })
+
+module _ {s : Bytes} {more : Bool} {b rest : Bytes} (h : Begins s more b rest) where
+  pub body-read : bodyOf s (stepOf s) ≡ b
+  body-read = rw (h .step) (h .body)
+
+  pub rest-read : restOf s (stepOf s) ≡ rest
+  rest-read = rw (h .step) (h .after)
+
+-- ---- a whole message
+last-read : (s b : Bytes) → Begins s false b [] → framesIn s ≡ some (b ∷ [])
+last-read s b h = frames-step s ∙ rw (h .step, h .body, h .after)
+
+more-read : (s b rest : Bytes) → Begins s true b rest → framesIn s ≡ Option·map (λ (bodies : List Bytes). b ∷ bodies) (framesIn rest)
+more-read s b rest h = frames-step s ∙ rw (h .step, h .body, h .after)
 
 -- each body is short enough for a size
 abbrev pub Sized : List Bytes → Type 0
@@ -100,8 +110,7 @@ Sized (b ∷ bs) = (length b < 18446744073709551616) × Sized bs
 
 pub round-trip : (b : Bytes) (bs : List Bytes) → Sized (b ∷ bs) → framesIn (encode b bs) ≡ some (b ∷ bs)
 unfolding encode
-round-trip b [] h =
-    rw (sym (append-nil (frame false b))) (frames-step (frame false b ++ []) ∙ read-frame framesIn b [] false (h .0))
+round-trip b [] h = rw (sym (append-nil (frame false b))) (last-read (frame false b ++ []) b (frame-begins false b [] (h .0)))
 round-trip b (c ∷ cs) h =
-    frames-step (frame true b ++ encode c cs) ∙ read-frame framesIn b (encode c cs) true (h .0)
+    more-read (frame true b ++ encode c cs) b (encode c cs) (frame-begins true b (encode c cs) (h .0))
     ∙ ap (Option·map (λ (bodies : List Bytes). b ∷ bodies)) (round-trip c cs (h .1))

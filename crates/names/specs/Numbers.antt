@@ -20,9 +20,12 @@ maxTick = 4611686018427387904
 abbrev pub sequence : ℕ → Sequence
 sequence n = record { 0 = n }
 
--- what a sequence frame says
+-- what a sequence frame says: eight octets are a number
+abbrev pub isSequence : Bytes → Bool
+isSequence s = eqb (length s) 8
+
 abbrev pub numberedOf : Bytes → Numbered
-numberedOf s = cond (eqb (length s) 8) (By (sequence (number s))) Unnumbered
+numberedOf s = cond (isSequence s) (By (sequence (number s))) Unnumbered
 
 abbrev pub isKept : Sequence → Bool
 isKept n = leb (n .0) maxSequence

@@ -13,7 +13,7 @@ use Rattle.base.specs.Cuts.{foundOf, pieces}
 use Rattle.base.specs.declared.bytes.Position.the-variants.{At, Nowhere}
 use Rattle.properties.specs.Decimals.{decimalOf}
 use Rattle.properties.specs.Lines.{lineWith, lineFor, lineOf, withLine}
-use Rattle.properties.specs.Properties.{both, Property, ended, propertyIn, eachOf, propertiesIn, ttls, lifetimeOf, judged, propertiesOf}
+use Rattle.properties.specs.Properties.{together, Property, ended, propertyIn, eachOf, propertiesIn, ttls, lifetimeOf, judged, propertiesOf}
 use Rattle.properties.specs.declared.decimal.Decimal.the-variants.{Is, Wrong}
 use Rattle.properties.specs.declared.decimal.Decimal.{Decimal}
 use Rattle.properties.specs.declared.read.Lifetime.the-variants.{Unlimited, Seconds}
@@ -66,7 +66,7 @@ module _ (f : Lifetime → Properties) where
       go Wrong e (Seconds m) vs h = refl
 
   one-more : (l : Lifetime) (p : Option Property) (ps : Option (List Property)) → ((m : Lifetime) → f m ≡ judgedFrom m ps)
-      → andThen (withLine l (lineFor p)) f ≡ judgedFrom l (both p ps)
+      → andThen (withLine l (lineFor p)) f ≡ judgedFrom l (together p ps)
   unfolding ttls
   one-more l none ps h = refl
   one-more l (some p) none h = nothing-left (withLine l (lineFor (some p))) h
@@ -76,10 +76,10 @@ module _ (f : Lifetime → Properties) where
       go true = one-ttl l (p .value) (ttls ps) h
       go false = h l
 
-all-of : (line : Bytes) (x : Option (List Bytes)) → eachOf (Option·map (λ (lines : List Bytes). line ∷ lines) x) ≡ both (propertyIn line) (eachOf x)
+all-of : (line : Bytes) (x : Option (List Bytes)) → eachOf (Option·map (λ (lines : List Bytes). line ∷ lines) x) ≡ together (propertyIn line) (eachOf x)
 all-of line none = go (propertyIn line)
   where
-    go : (p : Option Property) → none ≡ both p none
+    go : (p : Option Property) → none ≡ together p none
     go none = refl
     go (some p) = refl
 all-of line (some lines) = refl

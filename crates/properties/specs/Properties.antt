@@ -33,14 +33,14 @@ propertyIn line =
     cond (not (holds 0 line) && (holds 61 line && not (isNil (before 61 line)))) (some (record { name = before 61 line; value = behind 61 line })) none
 
 -- one property for each line; none where a line is no property
-abbrev pub both : Option Property → Option (List Property) → Option (List Property)
-both none ps = none
-both (some p) none = none
-both (some p) (some ps) = some (p ∷ ps)
+abbrev pub together : Option Property → Option (List Property) → Option (List Property)
+together none ps = none
+together (some p) none = none
+together (some p) (some ps) = some (p ∷ ps)
 
 abbrev pub each : List Bytes → Option (List Property)
 each [] = some []
-each (line ∷ lines) = both (propertyIn line) (each lines)
+each (line ∷ lines) = together (propertyIn line) (each lines)
 
 abbrev pub eachOf : Option (List Bytes) → Option (List Property)
 eachOf none = none

@@ -1,0 +1,14 @@
+// The messages of the protocol, as fields: their writers, and the identity frame in front of them.
+pub mod identity;
+pub mod write;
+
+// The frames of a message with five of them.
+pub const HEAD: usize = 0;
+
+pub const SEQUENCE: usize = 1;
+
+pub const UUID: usize = 2;
+
+pub const PROPERTIES: usize = 3;
+
+pub const VALUE: usize = 4;
