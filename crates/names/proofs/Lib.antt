@@ -1,3 +1,4 @@
+pub mod KeyGrammar
 pub mod KeyLaws
 pub mod NumberLaws
 pub mod OrderLaws

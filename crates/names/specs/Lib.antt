@@ -1,3 +1,4 @@
+pub mod Grammar
 pub mod Keys
 pub mod KeyScan
 pub mod Lengths

@@ -13,7 +13,7 @@ use Rattle.base.specs.Cuts.{foundOf, pieces}
 use Rattle.base.specs.declared.bytes.Position.the-variants.{At, Nowhere}
 use Rattle.properties.specs.Decimals.{decimalOf}
 use Rattle.properties.specs.Lines.{lineWith, lineFor, lineOf, withLine}
-use Rattle.properties.specs.Properties.{together, Property, ended, propertyIn, eachOf, propertiesIn, ttls, lifetimeOf, judged, propertiesOf}
+use Rattle.properties.specs.Properties.{Property, ended, propertyIn, together, eachOf, propertiesIn, ttls, lifetimeOf, judged, propertiesOf}
 use Rattle.properties.specs.declared.decimal.Decimal.the-variants.{Is, Wrong}
 use Rattle.properties.specs.declared.decimal.Decimal.{Decimal}
 use Rattle.properties.specs.declared.read.Lifetime.the-variants.{Unlimited, Seconds}
@@ -76,7 +76,7 @@ module _ (f : Lifetime → Properties) where
       go true = one-ttl l (p .value) (ttls ps) h
       go false = h l
 
-all-of : (line : Bytes) (x : Option (List Bytes)) → eachOf (Option·map (λ (lines : List Bytes). line ∷ lines) x) ≡ together (propertyIn line) (eachOf x)
+pub all-of : (line : Bytes) (x : Option (List Bytes)) → eachOf (Option·map (λ (lines : List Bytes). line ∷ lines) x) ≡ together (propertyIn line) (eachOf x)
 all-of line none = go (propertyIn line)
   where
     go : (p : Option Property) → none ≡ together p none

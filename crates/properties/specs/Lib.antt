@@ -1,3 +1,4 @@
 pub mod Decimals
+pub mod Grammar
 pub mod Lines
 pub mod Properties

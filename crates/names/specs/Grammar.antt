@@ -1,0 +1,21 @@
+-- The rules for keys and subtrees as grammars. That `isKey` and `isSubtree` of `Keys` decide them is proved in proofs/KeyGrammar.
+use Prim.Native.Nat.{_<_}
+use mathlib.Core.List.{[], _∷_, _++_}
+use mathlib.Core.Path.{_≡_}
+use lib.ListN.{length}
+use Rattle.base.specs.Bytes.{Bytes}
+
+-- bytes that are neither slash nor zero
+abbrev pub Plain : Bytes → Type 0
+Plain [] = Unit {0}
+Plain (b ∷ s) = (b ≡ 47 → ⊥) × (b ≡ 0 → ⊥) × Plain s
+
+-- one or more of (slash, then one or more bytes that are neither slash nor zero)
+pub data Key : Bytes → Type 0 where
+  one : (name : Bytes) → 0 < length name → Plain name → Key (47 ∷ name)
+  more : (name rest : Bytes) → 0 < length name → Plain name → Key rest → Key (47 ∷ name ++ rest)
+
+-- empty, or a key and a final slash
+pub data Subtree : Bytes → Type 0 where
+  whole : Subtree []
+  below : (key : Bytes) → Key key → Subtree (key ++ (47 ∷ []))

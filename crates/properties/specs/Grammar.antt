@@ -1,0 +1,23 @@
+-- The rule for properties as a grammar. That `propertiesIn` of `Properties` decides it is proved in proofs/PropertyGrammar.
+use Prim.Native.Nat.{_<_}
+use mathlib.Core.List.{List, [], _∷_, _++_}
+use mathlib.Core.Path.{_≡_}
+use lib.ListN.{length}
+use Rattle.base.specs.Bytes.{Bytes}
+use Rattle.properties.specs.Properties.{Property}
+
+-- bytes of a value: neither newline nor zero
+abbrev pub Unbroken : Bytes → Type 0
+Unbroken [] = Unit {0}
+Unbroken (b ∷ s) = (b ≡ 10 → ⊥) × (b ≡ 0 → ⊥) × Unbroken s
+
+-- bytes of a name: neither equals sign nor newline nor zero
+abbrev pub Unsigned : Bytes → Type 0
+Unsigned [] = Unit {0}
+Unsigned (b ∷ s) = (b ≡ 61 → ⊥) × (b ≡ 10 → ⊥) × (b ≡ 0 → ⊥) × Unsigned s
+
+-- zero or more of name=value newline; a name has one or more bytes
+pub data Text : List Property → Bytes → Type 0 where
+  empty : Text [] []
+  entry : (p : Property) (ps : List Property) (rest : Bytes) → 0 < length (p .name) → Unsigned (p .name) → Unbroken (p .value) → Text ps rest
+      → Text (p ∷ ps) ((p .name ++ (61 ∷ p .value)) ++ (10 ∷ rest))
