@@ -65,29 +65,34 @@ pub record Begins (s : Bytes) (more : Bool) (b rest : Bytes) : Type 0 where
   pub body : take (length b) (drop start s) ≡ b
   pub after : drop (length b) (drop start s) ≡ rest
 
-pub frame-begins : (more : Bool) (b rest : Bytes) → length b < 18446744073709551616 → Begins (frame more b ++ rest) more b rest
-unfolding frame
-frame-begins more b rest h = go (leb (length b) 255)
-  where
-    n : ℕ
-    n = length b
+module _ (more : Bool) (b rest : Bytes) where
+  fits : length b ≤ length (b ++ rest)
+  fits = omega (arith, length-append b rest)
 
-    fits : n ≤ length (b ++ rest)
-    fits = omega (arith, length-append b rest)
+  pub short-begins : Begins ((flagOf more false ∷ length b ∷ b) ++ rest) more b rest
+  short-begins =
+      record { start = 2; step = step-short more (length b) (b ++ rest) fits; body = take-append-seam b rest; after = drop-append-seam b rest }
 
-    behind-size : drop 8 (octets 8 n ++ (b ++ rest)) ≡ b ++ rest
-    behind-size = drop-at (octets 8 n) (b ++ rest) 8 (length-octets 8 n)
+  behind-size : drop 8 (octets 8 (length b) ++ (b ++ rest)) ≡ b ++ rest
+  behind-size = drop-at (octets 8 (length b)) (b ++ rest) 8 (length-octets 8 (length b))
 
-    go : (t : Bool) → Begins ((cond t (flagOf more false ∷ n ∷ []) (flagOf more true ∷ octets 8 n) ++ b) ++ rest) more b rest
-    go true = record { start = 2; step = step-short more n (b ++ rest) fits; body = take-append-seam b rest; after = drop-append-seam b rest }
-    go false =
-        rw (append-assoc (octets 8 n) b rest)
-        (record {
-          start = 9;
-          step = step-long more n (b ++ rest) h fits;
-          body = rw behind-size (take-append-seam b rest);
-          after = rw behind-size (drop-append-seam b rest);
-        })
+  pub long-begins : length b < 18446744073709551616 → Begins ((flagOf more true ∷ octets 8 (length b) ++ b) ++ rest) more b rest
+  long-begins h =
+      rw (append-assoc (octets 8 (length b)) b rest)
+      (record {
+        start = 9;
+        step = step-long more (length b) (b ++ rest) h fits;
+        body = rw behind-size (take-append-seam b rest);
+        after = rw behind-size (drop-append-seam b rest);
+      })
+
+  pub frame-begins : length b < 18446744073709551616 → Begins (frame more b ++ rest) more b rest
+  unfolding frame
+  frame-begins h = go (leb (length b) 255)
+    where
+      go : (t : Bool) → Begins ((cond t (flagOf more false ∷ length b ∷ []) (flagOf more true ∷ octets 8 (length b)) ++ b) ++ rest) more b rest
+      go true = short-begins
+      go false = long-begins h
 
 module _ {s : Bytes} {more : Bool} {b rest : Bytes} (h : Begins s more b rest) where
   pub body-read : bodyOf s (stepOf s) ≡ b
@@ -97,10 +102,10 @@ module _ {s : Bytes} {more : Bool} {b rest : Bytes} (h : Begins s more b rest) w
   rest-read = rw (h .step) (h .after)
 
 -- ---- a whole message
-last-read : (s b : Bytes) → Begins s false b [] → framesIn s ≡ some (b ∷ [])
+pub last-read : (s b : Bytes) → Begins s false b [] → framesIn s ≡ some (b ∷ [])
 last-read s b h = frames-step s ∙ rw (h .step, h .body, h .after)
 
-more-read : (s b rest : Bytes) → Begins s true b rest → framesIn s ≡ Option·map (λ (bodies : List Bytes). b ∷ bodies) (framesIn rest)
+pub more-read : (s b rest : Bytes) → Begins s true b rest → framesIn s ≡ Option·map (λ (bodies : List Bytes). b ∷ bodies) (framesIn rest)
 more-read s b rest h = frames-step s ∙ rw (h .step, h .body, h .after)
 
 -- each body is short enough for a size

@@ -1,3 +1,4 @@
+pub mod FrameGrammar
 pub mod FrameLaws
 pub mod MessageLaws
 pub mod StepLaws

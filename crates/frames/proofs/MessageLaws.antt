@@ -122,10 +122,10 @@ module _ (m s : Bytes) (n : ℕ) (h : framingOf m ≡ onward n (framingOf s)) wh
           go (x ∷ t) k = refl
 
 -- ---- the bodies of a sound message, one by one
-none-some : {A C : Type 0} (x : A) → _≡_ {A = Option A} none (some x) → C
+pub none-some : {A C : Type 0} (x : A) → _≡_ {A = Option A} none (some x) → C
 none-some x e = absurd (let z : _≡_ {A = ℕ} 0 1 = cc in omega arith)
 
-prepended : (body : Bytes) (x : Option (List Bytes)) (bodies : List Bytes) → Option·map (λ (bs : List Bytes). body ∷ bs) x ≡ some bodies
+pub prepended : (body : Bytes) (x : Option (List Bytes)) (bodies : List Bytes) → Option·map (λ (bs : List Bytes). body ∷ bs) x ≡ some bodies
     → (others : List Bytes) × (x ≡ some others) × (bodies ≡ body ∷ others)
 prepended body none bodies e = none-some bodies e
 prepended body (some others) bodies e = (others, refl, cc)
