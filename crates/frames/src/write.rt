@@ -6,14 +6,17 @@ ghost use Prim.Native.Nat.{min};
 ghost use Rattle.base.specs.Output.{Written, largest};
 ghost use Rattle.frames.specs.Messages.{flagOf, header, frameLength, frame};
 
+// The longest body whose size takes one octet.
+const SHORT_MOST: usize = 255;
+
 // How many bytes a frame takes whose body is n bytes long, or the largest number where that is larger.
 pub fn frame_length(n: usize) -> usize
     ensures { λ r. ⌜ r ≡ min (frameLength n) largest ⌝ }
 {
-    if n < 256 {
-        return n + 2;
+    if SHORT_MOST < n {
+        return output::add_lengths(n, 9);
     }
-    output::add_lengths(n, 9)
+    n + 2
 }
 
 fn flag(more: bool, long: bool) -> u8
@@ -30,7 +33,7 @@ fn flag(more: bool, long: bool) -> u8
 fn put_header(out: &mut [u8], at: usize, more: bool, n: usize) -> usize
     ensures { λ r. ⌜ Written (now (out .entry)) at (header more n) r (now (out .exit)) ⌝ }
 {
-    if n < 256 {
+    if n <= SHORT_MOST {
         let short = [flag(more, false), n as u8];
         return output::put_bytes(out, at, &short);
     }

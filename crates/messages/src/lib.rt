@@ -2,6 +2,11 @@
 pub mod identity;
 pub mod write;
 
+// How many frames an update and its like has, and a snapshot request behind its identity.
+pub const FRAMES: usize = 5;
+
+pub const REQUEST_FRAMES: usize = 3;
+
 // The frames of a message with five of them.
 pub const HEAD: usize = 0;
 

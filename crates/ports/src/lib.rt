@@ -1,3 +1,7 @@
-// The ports that take messages: what each refuses by the frames alone, and the two value entries.
-pub mod checks;
+// The ports that take messages: what each refuses by the frames alone, in the order of the refusals, and the two value entries.
+pub mod icanhaz;
+pub mod kvset;
+pub mod snapshot;
+pub mod subscriber;
+pub mod update;
 pub mod value;

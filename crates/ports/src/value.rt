@@ -4,6 +4,8 @@ use answers::refusal::Refusal;
 use answers::refusal::Verdict;
 use frames::read;
 use frames::read::Framing;
+use messages::FRAMES;
+use messages::VALUE;
 ghost use mathlib.Core.Path.{_≡_};
 ghost use Rattle.base.specs.Checks.{firstOf};
 ghost use Rattle.answers.specs.Refusals.{verdict, verdictNumber};
@@ -16,10 +18,10 @@ pub fn value_frame(msg: &[u8]) -> &[u8]
     let Framing::Frames(n) = read::count_frames(msg) else {
         return &msg[..0];
     };
-    if n != 5 {
+    if n != FRAMES {
         return &msg[..0];
     }
-    read::body(msg, 4)
+    read::body(msg, VALUE)
 }
 
 // 0 where a message has five frames, and else the number of its refusal.
@@ -29,7 +31,7 @@ pub fn value_refusal(msg: &[u8]) -> u64
     let Framing::Frames(n) = read::count_frames(msg) else {
         return refusal::verdict_number(Verdict::Refuse(Refusal::Framing));
     };
-    if n != 5 {
+    if n != FRAMES {
         return refusal::verdict_number(Verdict::Refuse(Refusal::FrameCount));
     }
     refusal::verdict_number(Verdict::Accept)

@@ -6,17 +6,17 @@ use Rattle.base.specs.Cuts.{before}
 use Rattle.frames.proofs.write.frame_length.Statement.{statement}
 use Rattle.frames.proofs.write.frame_length.Tie as tie
 
-add-result : tie.Need-add-result
-add-result c = search needs
-
-returns : tie.Need-returns
-returns c = rw (le-leb (c .before .args .n) 255 (omega arith)) (omega arith)
-
 add-lengths-requires : tie.Need-add-lengths-requires
 add-lengths-requires c κs = search needs
 
+returns : tie.Need-returns
+returns c = rw (lt-leb _ _ (c .before .if1 .taken)) (c .add-lengths .ensures)
+
+add-result : tie.Need-add-result
+add-result c = search needs
+
 returns-2 : tie.Need-returns-2
-returns-2 c = rw (lt-leb (c .before .before .args .n) 255 (omega arith)) (c .add-lengths .ensures)
+returns-2 c = rw (le-leb _ _ (c .if1 .left)) (omega arith)
 
 pub frame-length-spec : {M : Type 1} → statement M
-frame-length-spec = tie.close (tie.spec add-result returns add-lengths-requires returns-2)
+frame-length-spec = tie.close (tie.spec add-lengths-requires returns add-result returns-2)

@@ -1,5 +1,4 @@
 -- `frames::write::put_header` meets its contract: a short head is two bytes and a long one nine. Assumes nothing.
-use native.Mathlib.Omega.{arith}
 use borrow.Author.Needs.{needs}
 use borrow.Author.Tests.{le-leb, lt-leb}
 use Rattle.base.specs.Cuts.{before}
@@ -25,7 +24,7 @@ same-length c = search needs
 
 returns : tie.Need-returns
 unfolding octets
-returns c = rw (le-leb (c .before .before .before .before .before .before .before .before .args .n) 255 (omega arith), ← c .before .before .before .before .before .flag .ensures) (c .before .before .put-bytes .ensures)
+returns c = rw (le-leb _ _ (c .before .before .before .before .before .before .if1 .taken), ← c .before .before .before .before .before .flag .ensures) (c .before .before .put-bytes .ensures)
 
 octets-of-requires : tie.Need-octets-of-requires
 octets-of-requires c κs = search needs
@@ -67,7 +66,8 @@ same-length-2 : tie.Need-same-length-2
 same-length-2 c = search needs
 
 returns-2 : tie.Need-returns-2
-returns-2 c = rw (lt-leb (c .before .before .before .before .before .before .before .before .before .args .n) 255 (omega arith), ← c .before .before .before .before .before .flag2 .ensures, ← c .before .before .before .before .before .before .octets-of .ensures, listed-octets _ _ (c .before .before .before .before .before .before .octets-of .ensures)) (c .before .before .put-bytes2 .ensures)
+unfolding octets
+returns-2 c = rw (lt-leb _ _ (c .before .before .before .before .before .before .before .if1 .left), ← c .before .before .before .before .before .flag2 .ensures, ← c .before .before .before .before .before .before .octets-of .ensures, listed-octets _ _ (c .before .before .before .before .before .before .octets-of .ensures)) (c .before .before .put-bytes2 .ensures)
 
 pub put-header-spec : {M : Type 1} → statement M
 put-header-spec =

@@ -1,4 +1,4 @@
--- `ports::checks::check_kthxbai_frames` meets its contract: the checks in their order, each behind those that passed. Assumes nothing.
+-- `ports::snapshot::check_kthxbai_frames` meets its contract: the checks in their order, each behind those that passed. Assumes nothing.
 use mathlib.Core.Bool.{Bool, not}
 use mathlib.Core.List.{List}
 use mathlib.Core.Path.{_≡_, refl, sym, ap, _∙_}
@@ -20,8 +20,8 @@ use Rattle.names.specs.declared.numbers.Numbered.the-variants.{By}
 use Rattle.ports.proofs.PortLaws.{asked, told, empty-pass, empty-stop, unnumbered-stop, numbered-pass, number-is}
 use Rattle.ports.specs.Bodies.{bodiesOf}
 use Rattle.ports.specs.Ports.{kthxbaiChecks}
-use Rattle.ports.proofs.checks.check_kthxbai_frames.Statement.{statement}
-use Rattle.ports.proofs.checks.check_kthxbai_frames.Tie as tie
+use Rattle.ports.proofs.snapshot.check_kthxbai_frames.Statement.{statement}
+use Rattle.ports.proofs.snapshot.check_kthxbai_frames.Tie as tie
 
 abbrev table : tie.Start → List (Check Refusal)
 table s = kthxbaiChecks (now (s .args .subtree)) (bodiesOf (now (s .args .msg)))

@@ -1,4 +1,4 @@
--- `ports::checks::check_payload` meets its contract: the checks in their order, each behind those that passed. Assumes nothing.
+-- `ports::update::check_payload` meets its contract: the checks in their order, each behind those that passed. Assumes nothing.
 use mathlib.Core.List.{List}
 use mathlib.Core.Path.{refl, sym, _∙_}
 use lib.ListN.{drop}
@@ -12,8 +12,8 @@ use Rattle.base.specs.Checks.{Check, firstOf}
 use Rattle.base.specs.Cuts.{before}
 use Rattle.ports.proofs.PortLaws.{asked, good-pass, good-stop}
 use Rattle.ports.specs.Ports.{payloadChecks}
-use Rattle.ports.proofs.checks.check_payload.Statement.{statement}
-use Rattle.ports.proofs.checks.check_payload.Tie as tie
+use Rattle.ports.proofs.update.check_payload.Statement.{statement}
+use Rattle.ports.proofs.update.check_payload.Tie as tie
 
 abbrev table : tie.Start → List (Check Refusal)
 table s = payloadChecks (now (s .args .uuid)) (now (s .args .properties)) (now (s .args .value))

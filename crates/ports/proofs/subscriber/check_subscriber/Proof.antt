@@ -1,4 +1,4 @@
--- `ports::checks::check_subscriber` meets its contract: the framing, the count of frames, and then the frames by the first of them. Assumes nothing.
+-- `ports::subscriber::check_subscriber` meets its contract: the framing, the count of frames, and then the frames by the first of them. Assumes nothing.
 use mathlib.Core.Bool.{Bool}
 use mathlib.Core.List.{List}
 use mathlib.Core.Path.{_≡_, refl, sym, _∙_}
@@ -17,8 +17,8 @@ use Rattle.messages.specs.Fields.{frameAt, fieldsOf}
 use Rattle.names.specs.Words.{wordHugz}
 use Rattle.ports.proofs.PortLaws.{refuse-framing, refuse-count, framed-well, head-told, by-fields}
 use Rattle.ports.specs.Ports.{kvpubChecks, hugzChecks, subscriberPort}
-use Rattle.ports.proofs.checks.check_subscriber.Statement.{statement}
-use Rattle.ports.proofs.checks.check_subscriber.Tie as tie
+use Rattle.ports.proofs.subscriber.check_subscriber.Statement.{statement}
+use Rattle.ports.proofs.subscriber.check_subscriber.Tie as tie
 
 abbrev table : tie.Start → List (Check Refusal)
 table s = subscriberPort (now (s .args .msg))

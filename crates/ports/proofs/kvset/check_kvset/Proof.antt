@@ -1,4 +1,4 @@
--- `ports::checks::check_kvset` meets its contract: the framing, the count of frames, and then the frames. Assumes nothing.
+-- `ports::kvset::check_kvset` meets its contract: the framing, the count of frames, and then the frames. Assumes nothing.
 use mathlib.Core.Path.{_≡_, refl, sym, _∙_}
 use borrow.Author.Needs.{needs}
 use denote.Ref.{now}
@@ -11,8 +11,8 @@ use Rattle.frames.specs.Messages.{framingOf}
 use Rattle.frames.specs.declared.read.Framing.the-variants.{Frames}
 use Rattle.ports.proofs.PortLaws.{refuse-framing, refuse-count, framed-well, by-fields}
 use Rattle.ports.specs.Ports.{kvsetChecks, kvsetPort}
-use Rattle.ports.proofs.checks.check_kvset.Statement.{statement}
-use Rattle.ports.proofs.checks.check_kvset.Tie as tie
+use Rattle.ports.proofs.kvset.check_kvset.Statement.{statement}
+use Rattle.ports.proofs.kvset.check_kvset.Tie as tie
 
 abbrev answer : tie.Start → Verdict
 answer s = verdict (firstOf (kvsetPort (now (s .args .msg))))

@@ -1,4 +1,4 @@
--- `ports::checks::check_icanhaz_frames` meets its contract: the checks in their order, each behind those that passed. Assumes nothing.
+-- `ports::icanhaz::check_icanhaz_frames` meets its contract: the checks in their order, each behind those that passed. Assumes nothing.
 use mathlib.Core.List.{List}
 use mathlib.Core.Path.{refl}
 use lib.ListN.{drop}
@@ -17,8 +17,8 @@ use Rattle.names.specs.Lengths.{isIdentity}
 use Rattle.names.specs.Words.{wordIcanhaz}
 use Rattle.ports.proofs.PortLaws.{told}
 use Rattle.ports.specs.Ports.{icanhazChecks}
-use Rattle.ports.proofs.checks.check_icanhaz_frames.Statement.{statement}
-use Rattle.ports.proofs.checks.check_icanhaz_frames.Tie as tie
+use Rattle.ports.proofs.icanhaz.check_icanhaz_frames.Statement.{statement}
+use Rattle.ports.proofs.icanhaz.check_icanhaz_frames.Tie as tie
 
 abbrev table : tie.Start → List (Check Refusal)
 table s = icanhazChecks (bodyAt 0 (now (s .args .msg))) (bodyAt 1 (now (s .args .msg))) (bodyAt 2 (now (s .args .msg)))

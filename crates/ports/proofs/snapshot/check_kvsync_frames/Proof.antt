@@ -1,4 +1,4 @@
--- `ports::checks::check_kvsync_frames` meets its contract: the checks in their order, each behind those that passed. Assumes nothing.
+-- `ports::snapshot::check_kvsync_frames` meets its contract: the checks in their order, each behind those that passed. Assumes nothing.
 use mathlib.Core.Bool.{not}
 use mathlib.Core.List.{List}
 use mathlib.Core.Path.{refl, sym, ap, _∙_}
@@ -16,8 +16,8 @@ use Rattle.names.specs.Lengths.{isValue}
 use Rattle.ports.proofs.PortLaws.{told, empty-pass, empty-stop, unnumbered-stop, numbered-pass}
 use Rattle.ports.specs.Bodies.{bodiesOf}
 use Rattle.ports.specs.Ports.{kvsyncChecks}
-use Rattle.ports.proofs.checks.check_kvsync_frames.Statement.{statement}
-use Rattle.ports.proofs.checks.check_kvsync_frames.Tie as tie
+use Rattle.ports.proofs.snapshot.check_kvsync_frames.Statement.{statement}
+use Rattle.ports.proofs.snapshot.check_kvsync_frames.Tie as tie
 
 abbrev table : tie.Start → List (Check Refusal)
 table s = kvsyncChecks (now (s .args .subtree)) (bodiesOf (now (s .args .msg)))

@@ -1,4 +1,4 @@
--- `ports::checks::check_icanhaz` meets its contract: the framing, the count of frames, and then the frames. Assumes nothing.
+-- `ports::icanhaz::check_icanhaz` meets its contract: the framing, the count of frames, and then the frames. Assumes nothing.
 use Prim.Native.Nat.{ℕ, _<_}
 use native.Mathlib.Omega.{arith}
 use mathlib.Core.Path.{_≡_, refl, sym, _∙_}
@@ -14,8 +14,8 @@ use Rattle.frames.specs.declared.read.Framing.the-variants.{Frames}
 use Rattle.messages.specs.Fields.{frameAt}
 use Rattle.ports.proofs.PortLaws.{frame-is, refuse-framing, refuse-count, framed-well}
 use Rattle.ports.specs.Ports.{icanhazPort}
-use Rattle.ports.proofs.checks.check_icanhaz.Statement.{statement}
-use Rattle.ports.proofs.checks.check_icanhaz.Tie as tie
+use Rattle.ports.proofs.icanhaz.check_icanhaz.Statement.{statement}
+use Rattle.ports.proofs.icanhaz.check_icanhaz.Tie as tie
 
 abbrev answer : tie.Start → Verdict
 answer s = verdict (firstOf (icanhazPort (now (s .args .msg))))

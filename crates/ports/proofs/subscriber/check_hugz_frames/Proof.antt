@@ -1,4 +1,4 @@
--- `ports::checks::check_hugz_frames` meets its contract: the checks in their order, each behind those that passed. Assumes nothing.
+-- `ports::subscriber::check_hugz_frames` meets its contract: the checks in their order, each behind those that passed. Assumes nothing.
 use mathlib.Core.Bool.{not}
 use mathlib.Core.List.{List}
 use mathlib.Core.Path.{_≡_, refl, sym, ap, _∙_}
@@ -19,8 +19,8 @@ use Rattle.names.specs.declared.numbers.Numbered.the-variants.{By}
 use Rattle.ports.proofs.PortLaws.{empty-pass, empty-stop, unnumbered-stop, numbered-pass, number-is}
 use Rattle.ports.specs.Bodies.{bodiesOf}
 use Rattle.ports.specs.Ports.{hugzChecks}
-use Rattle.ports.proofs.checks.check_hugz_frames.Statement.{statement}
-use Rattle.ports.proofs.checks.check_hugz_frames.Tie as tie
+use Rattle.ports.proofs.subscriber.check_hugz_frames.Statement.{statement}
+use Rattle.ports.proofs.subscriber.check_hugz_frames.Tie as tie
 
 abbrev table : tie.Start → List (Check Refusal)
 table s = hugzChecks (bodiesOf (now (s .args .msg)))

@@ -1,4 +1,4 @@
--- `ports::checks::check_update` meets its contract: the key, and then the rest. Assumes nothing.
+-- `ports::update::check_update` meets its contract: the key, and then the rest. Assumes nothing.
 use mathlib.Core.List.{List}
 use mathlib.Core.Path.{refl, sym, _∙_}
 use borrow.Author.Needs.{needs}
@@ -10,8 +10,8 @@ use Rattle.base.specs.Checks.{Check, firstOf}
 use Rattle.base.specs.Cuts.{before}
 use Rattle.ports.proofs.PortLaws.{asked}
 use Rattle.ports.specs.Ports.{updateChecks}
-use Rattle.ports.proofs.checks.check_update.Statement.{statement}
-use Rattle.ports.proofs.checks.check_update.Tie as tie
+use Rattle.ports.proofs.update.check_update.Statement.{statement}
+use Rattle.ports.proofs.update.check_update.Tie as tie
 
 abbrev table : tie.Start → List (Check Refusal)
 table s = updateChecks (now (s .args .key)) (now (s .args .uuid)) (now (s .args .properties)) (now (s .args .value))

@@ -1,4 +1,4 @@
--- `ports::checks::check_kvpub_frames` meets its contract: the checks in their order, each behind those that passed. Assumes nothing.
+-- `ports::subscriber::check_kvpub_frames` meets its contract: the checks in their order, each behind those that passed. Assumes nothing.
 use mathlib.Core.Bool.{Bool, not}
 use mathlib.Core.List.{List}
 use mathlib.Core.Path.{_≡_, refl, sym, _∙_}
@@ -20,8 +20,8 @@ use Rattle.names.specs.declared.numbers.Numbered.the-variants.{By}
 use Rattle.ports.proofs.PortLaws.{asked, told, unnumbered-stop, numbered-pass, number-is}
 use Rattle.ports.specs.Bodies.{bodiesOf}
 use Rattle.ports.specs.Ports.{kvpubChecks}
-use Rattle.ports.proofs.checks.check_kvpub_frames.Statement.{statement}
-use Rattle.ports.proofs.checks.check_kvpub_frames.Tie as tie
+use Rattle.ports.proofs.subscriber.check_kvpub_frames.Statement.{statement}
+use Rattle.ports.proofs.subscriber.check_kvpub_frames.Tie as tie
 
 abbrev table : tie.Start → List (Check Refusal)
 table s = kvpubChecks (bodiesOf (now (s .args .msg)))

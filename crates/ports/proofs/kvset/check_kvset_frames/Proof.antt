@@ -1,4 +1,4 @@
--- `ports::checks::check_kvset_frames` meets its contract: the checks in their order, each behind those that passed. Assumes nothing.
+-- `ports::kvset::check_kvset_frames` meets its contract: the checks in their order, each behind those that passed. Assumes nothing.
 use mathlib.Core.List.{List}
 use mathlib.Core.Path.{refl, sym, _∙_}
 use lib.ListN.{drop}
@@ -14,8 +14,8 @@ use Rattle.names.specs.Keys.{isKey}
 use Rattle.ports.proofs.PortLaws.{told, unnumbered-stop, numbered-pass}
 use Rattle.ports.specs.Bodies.{bodiesOf}
 use Rattle.ports.specs.Ports.{kvsetChecks}
-use Rattle.ports.proofs.checks.check_kvset_frames.Statement.{statement}
-use Rattle.ports.proofs.checks.check_kvset_frames.Tie as tie
+use Rattle.ports.proofs.kvset.check_kvset_frames.Statement.{statement}
+use Rattle.ports.proofs.kvset.check_kvset_frames.Tie as tie
 
 abbrev table : tie.Start → List (Check Refusal)
 table s = kvsetChecks (bodiesOf (now (s .args .msg)))
