@@ -1,0 +1,102 @@
+// Messages judged at every port. The client's subtree is /clip/7/.
+use crate::print;
+use crate::text;
+use frames::read;
+use frames::write;
+use messages::PROPERTIES;
+use ports::icanhaz;
+use ports::kvset;
+use ports::snapshot;
+use ports::subscriber;
+use ports::value;
+use properties::read::Lifetime;
+use properties::read::Properties;
+
+// A line for each line.
+pub(crate) fn judge_lines(s: &[u8]) {
+    let mut i = 0;
+    while i < s.len() {
+        let rest = &s[i..];
+        let end = text::place(rest, b'\n');
+        judge_line(text::front(rest, end));
+        i = i + end + 1;
+    }
+}
+
+fn judge_line(line: &[u8]) {
+    if line.len() == 0 {
+        return;
+    }
+    let kind = line[0];
+    match kind {
+        b'=' => judge_bytes(text::behind(line, 2)),
+        b'+' => judge_frames(text::behind(line, 2)),
+        _ => heading(line),
+    }
+}
+
+fn heading(line: &[u8]) {
+    print::text(b"\n");
+    print::text(line);
+    print::text(b"\n");
+}
+
+// The bytes of a message behind a label.
+fn judge_bytes(line: &[u8]) {
+    let mut msg = [0; 2048];
+    let bar = text::place(line, b'|');
+    let n = text::decode(text::behind(line, bar + 1), &mut msg);
+    judge(text::front(line, bar), text::front(&msg, n));
+}
+
+// The frames of a message behind a label.
+fn judge_frames(line: &[u8]) {
+    let mut msg = [0; 2048];
+    let bar = text::place(line, b'|');
+    let n = write_frames(text::behind(line, bar + 1), &mut msg);
+    judge(text::front(line, bar), text::front(&msg, n));
+}
+
+// Writes the frames that a text has between bars.
+fn write_frames(s: &[u8], out: &mut [u8]) -> usize {
+    let mut i = 0;
+    let mut at = 0;
+    loop {
+        let rest = &s[i..];
+        let bar = text::place(rest, b'|');
+        let more = bar < rest.len();
+        at = write_frame(text::front(rest, bar), out, at, more);
+        if bar == rest.len() {
+            return at;
+        }
+        i = i + bar + 1;
+    }
+}
+
+fn write_frame(s: &[u8], out: &mut [u8], at: usize, more: bool) -> usize {
+    let mut body = [0; 512];
+    let n = text::decode(s, &mut body);
+    write::put_frame(out, at, more, text::front(&body, n))
+}
+
+// What the value entries and the ports make of a message: the number of the refusal, or 0.
+fn judge(label: &[u8], msg: &[u8]) {
+    print::text(label);
+    print::code(b": value entries ", value::value_refusal(msg));
+    print::code(b" of ", value::value_frame(msg).len() as u64);
+    print::verdict(b", kvset ", kvset::check_kvset(msg));
+    print::verdict(b", icanhaz ", icanhaz::check_icanhaz(msg));
+    print::verdict(b", snapshot ", snapshot::check_snapshot(msg, b"/clip/7/"));
+    print::verdict(b", subscriber ", subscriber::check_subscriber(msg));
+    lifetime(read::body(msg, PROPERTIES));
+    print::text(b"\n");
+}
+
+// The lifetime in a properties frame, where there is one.
+fn lifetime(s: &[u8]) {
+    if let Properties::Good(l) = properties::read::read_properties(s) {
+        if let Lifetime::Seconds(n) = l {
+            print::code(b", lifetime ", n);
+        }
+    }
+}

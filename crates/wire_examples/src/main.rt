@@ -1,0 +1,56 @@
+// Writes the worked bytes of the wire, and then judges each message of standard input at every port. What it writes is held
+// against the file stdout.
+//
+// A line of standard input is one of these, with \xNN for a byte in hexadecimal:
+//   # heading
+//   = label|bytes of a message
+//   + label|frame|frame|..      which are written as a message
+mod judge;
+mod print;
+mod text;
+
+use names::numbers::Sequence;
+
+fn main() {
+    written();
+    let mut room = io::large_buffer();
+    let n = io::read_full(0, &mut room);
+    judge::judge_lines(&room[..n]);
+}
+
+// HUGZ, a KVPUB of 33 bytes, and the answer to a snapshot request: a KVSYNC and a KTHXBAI, each behind the identity.
+fn written() {
+    let mut out = [0; 128];
+    let end = messages::write::write_hugz(&mut out, 0);
+    print::bytes(b"HUGZ", text::front(&out, end));
+    let end = messages::write::write_kvpub(
+        &mut out,
+        0,
+        Sequence(1),
+        b"/clip/7/undo",
+        b"",
+        b"",
+        b"cut",
+    );
+    print::bytes(b"KVPUB", text::front(&out, end));
+    let end = snapshot(&mut out, b"\x00ABCD");
+    print::bytes(b"snapshot", text::front(&out, end));
+    let end = messages::write::write_icanhaz(&mut out, 0, b"/clip/7/");
+    print::bytes(b"ICANHAZ", text::front(&out, end));
+    short_output();
+}
+
+fn snapshot(out: &mut [u8], identity: &[u8]) -> usize {
+    let a = messages::identity::write_identity(out, 0, identity);
+    let b = messages::write::write_kvsync(out, a, Sequence(1), b"/clip/7/undo", b"cut");
+    let c = messages::identity::write_identity(out, b, identity);
+    messages::write::write_kthxbai(out, c, Sequence(2), b"/clip/7/")
+}
+
+// Output that is a byte too short stays as it is.
+fn short_output() {
+    let mut out = [9; 21];
+    let end = messages::write::write_hugz(&mut out, 0);
+    print::bytes(b"HUGZ into 21 bytes", text::front(&out, end));
+    print::bytes(b"which stay", &out);
+}
