@@ -2,16 +2,18 @@
 use Prim.Native.Nat.{ℕ, _<_}
 use native.Mathlib.Omega.{arith}
 use mathlib.Core.Bool.{Bool, true, false, cond, not}
-use mathlib.Core.List.{List, [], _∷_}
+use mathlib.Core.List.{List, [], _∷_, _++_}
 use mathlib.Core.Option.{Option, none, some, Option·getD}
-use mathlib.Core.Path.{_≡_, refl, ap}
+use mathlib.Core.Path.{_≡_, refl}
+use lib.Dec.{eqb}
 use lib.ListN.{length, getD}
-use borrow.Author.Tests.{eq-eqb, ne-eqb}
+use borrow.Author.Tests.{eqb-true, not-false}
+use Rattle.answers.proofs.VerdictLaws.{accepted, past-accepted}
 use Rattle.answers.specs.Refusals.{verdict}
-use Rattle.answers.specs.declared.refusal.Refusal.the-variants.{Framing, FrameCount}
 use Rattle.answers.specs.declared.refusal.Refusal.{Refusal}
-use Rattle.base.proofs.CheckLaws.{Left, pass, stop}
-use Rattle.base.specs.Bytes.{Bytes, isNil, same}
+use Rattle.answers.specs.declared.refusal.Verdict.the-variants.{Accept}
+use Rattle.base.proofs.CheckLaws.{passed}
+use Rattle.base.specs.Bytes.{Bytes, isNil}
 use Rattle.base.specs.Checks.{Check, firstOf}
 use Rattle.base.specs.Octets.{number}
 use Rattle.frames.proofs.MessageLaws.{body-of}
@@ -50,31 +52,31 @@ module _ (msg : Bytes) where
     unfolding framingOf
     count-is = some-sound m (framesIn msg) e .1
 
-    pub frame-is : (k : ℕ) → k < m → bodyAt k msg ≡ frameAt k msg
-    unfolding framingOf frameAt
-    frame-is k l = go (framesIn msg) refl e
-      where
-        go : (x : Option (List Bytes)) → framesIn msg ≡ x → Frames m ≡ counted x → bodyAt k msg ≡ getD (Option·getD x []) k []
-        go none f e = absurd (let z : _≡_ {A = ℕ} 0 1 = cc in omega arith)
-        go (some bodies) f e =
-            let n : m ≡ length bodies = cc in
-            body-of k msg bodies (omega arith) f
+-- a message with as many frames as the port takes: the code finds the bodies of its frames
+module _ (n : ℕ) (msg : Bytes) (e : Accept ≡ verdict (firstOf (framed n msg))) where
+  all-passed : firstOf (framed n msg) ≡ none
+  all-passed = accepted (firstOf (framed n msg)) e
 
-    pub fields-are : m ≡ 5 → bodiesOf msg ≡ fieldsOf msg
-    fields-are h =
-        rw (frame-is 0 (omega arith), frame-is 1 (omega arith), frame-is 2 (omega arith), frame-is 3 (omega arith), frame-is 4 (omega arith))
+  pub frame-is : (k : ℕ) → k < n → bodyAt k msg ≡ frameAt k msg
+  unfolding frameAt
+  frame-is k l = go (framesIn msg) refl (passed 0 (framed n msg) all-passed) (passed 1 (framed n msg) all-passed)
+    where
+      go : (x : Option (List Bytes)) → framesIn msg ≡ x → isNone x ≡ false → not (eqb (length (Option·getD x [])) n) ≡ false → bodyAt k msg ≡ getD (Option·getD x []) k []
+      go none f s h = absurd (let z : _≡_ {A = ℕ} 0 1 = cc in omega arith)
+      go (some bodies) f s h =
+          let m : length bodies ≡ n = eqb-true _ _ (not-false _ h) in
+          body-of k msg bodies (omega arith) f
 
--- what a port answers by the framing and the count alone, and what is left behind them
-module _ {A : Type 0} {f : Option Refusal → A} {x : A} (n : ℕ) (msg : Bytes) {checks : List (Check Refusal)} (h : Left f x (framed n msg checks)) where
-  pub refuse-framing : Unsound ≡ framingOf msg → f (some Framing) ≡ x
-  refuse-framing e = stop h (unsound msg e)
+-- of five frames: they are the fields
+module _ (msg : Bytes) (e : Accept ≡ verdict (firstOf (framed 5 msg))) where
+  fields-are : bodiesOf msg ≡ fieldsOf msg
+  fields-are =
+      let at : (k : ℕ) → k < 5 → bodyAt k msg ≡ frameAt k msg = frame-is 5 msg e in
+      rw (at 0 (omega arith), at 1 (omega arith), at 2 (omega arith), at 3 (omega arith), at 4 (omega arith))
 
-  module _ (m : ℕ) (e : Frames m ≡ framingOf msg) where
-    pub refuse-count : (m ≡ n → ⊥) → f (some FrameCount) ≡ x
-    refuse-count k = stop (pass h (sound msg m e)) (rw (count-is msg m e, ne-eqb m n k))
-
-    pub framed-well : m ≡ n → Left f x checks
-    framed-well k = pass (pass h (sound msg m e)) (rw (count-is msg m e, eq-eqb m n k))
+  -- what the checks of the bodies come to is what those of the port come to
+  pub by-fields : (checks : Fields → List (Check Refusal)) → verdict (firstOf (checks (bodiesOf msg))) ≡ verdict (firstOf (framed 5 msg ++ checks (fieldsOf msg)))
+  by-fields checks = rw (fields-are, past-accepted (framed 5 msg) (checks (fieldsOf msg)) e)
 
 -- a test that a function made: r is its answer
 pub asked : {r s t : Bool} → r ≡ s → not r ≡ t → not s ≡ t
@@ -126,13 +128,3 @@ module _ {x y : Bytes} (e : x ≡ y) where
 
   pub good-stop : Malformed ≡ propertiesOf x → not (isGood (propertiesOf y)) ≡ true
   good-stop h = rw (← e, ← h)
-
--- the first frame is a word, or not
-pub head-told : (word msg : Bytes) (m : ℕ) → Frames m ≡ framingOf msg → m ≡ 5 → {x : Bytes} → x ≡ bodyAt 0 msg → {r t : Bool} → r ≡ same word x → r ≡ t
-    → same word (frameAt 0 msg) ≡ t
-head-told word msg m e h b k l = rw (← frame-is msg m e 0 (omega arith), ← b, ← k) l
-
--- checks of the bodies are checks of the fields
-pub by-fields : (checks : Fields → List (Check Refusal)) (msg : Bytes) (m : ℕ) → Frames m ≡ framingOf msg → m ≡ 5
-    → verdict (firstOf (checks (bodiesOf msg))) ≡ verdict (firstOf (checks (fieldsOf msg)))
-by-fields checks msg m e h = ap (λ (f : Fields). verdict (firstOf (checks f))) (fields-are msg m e h)

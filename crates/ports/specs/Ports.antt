@@ -1,7 +1,7 @@
 -- What each port refuses by the frames of a message alone: tables of checks, in the order of the refusals.
 use Prim.Native.Nat.{ℕ}
 use mathlib.Core.Bool.{Bool, true, false, cond, not}
-use mathlib.Core.List.{List, [], _∷_}
+use mathlib.Core.List.{List, [], _∷_, _++_}
 use mathlib.Core.Option.{Option, none, some}
 use lib.Dec.{leb, eqb}
 use lib.ListN.{length}
@@ -23,12 +23,12 @@ abbrev pub isNone : {A : Type 0} → Option A → Bool
 isNone none = true
 isNone (some _) = false
 
--- the framing, and how many frames the port takes; then the checks on the frames
-abbrev pub framed : ℕ → Bytes → List (Check Refusal) → List (Check Refusal)
-framed n msg checks =
+-- the framing, and how many frames the port takes
+abbrev pub framed : ℕ → Bytes → List (Check Refusal)
+framed n msg =
     when (isNone (framesIn msg)) Framing
     ∷ when (not (eqb (length (partsOf msg)) n)) FrameCount
-    ∷ checks
+    ∷ []
 
 -- ---- frames of updates
 abbrev pub payloadChecks : Bytes → Bytes → Bytes → List (Check Refusal)
@@ -90,6 +90,13 @@ hugzChecks f =
     ∷ when (not (isNil (f .value))) BadValue
     ∷ []
 
+-- ---- frames by the first of them: a word where it is read, and else a key
+abbrev pub snapshotChecks : Bytes → Fields → List (Check Refusal)
+snapshotChecks subtree f = cond (same wordKthxbai (f .head)) (kthxbaiChecks subtree f) (kvsyncChecks subtree f)
+
+abbrev pub publishedChecks : Fields → List (Check Refusal)
+publishedChecks f = cond (same wordHugz (f .head)) (hugzChecks f) (kvpubChecks f)
+
 -- ---- frames of a snapshot request behind its identity
 abbrev pub icanhazChecks : Bytes → Bytes → Bytes → List (Check Refusal)
 icanhazChecks identity word subtree =
@@ -101,25 +108,24 @@ icanhazChecks identity word subtree =
 -- ---- the ports
 -- the server's, for KVSET
 abbrev pub kvsetPort : Bytes → List (Check Refusal)
-kvsetPort msg = framed 5 msg (kvsetChecks (fieldsOf msg))
+kvsetPort msg = framed 5 msg ++ kvsetChecks (fieldsOf msg)
 
 -- the server's, for ICANHAZ, with the identity in front
 abbrev pub icanhazPort : Bytes → List (Check Refusal)
-icanhazPort msg = framed 3 msg (icanhazChecks (frameAt 0 msg) (frameAt 1 msg) (frameAt 2 msg))
+icanhazPort msg = framed 3 msg ++ icanhazChecks (frameAt 0 msg) (frameAt 1 msg) (frameAt 2 msg)
 
 -- the client's for snapshots: KTHXBAI, or else KVSYNC
 abbrev pub snapshotPort : Bytes → Bytes → List (Check Refusal)
-snapshotPort subtree msg =
-    framed 5 msg (cond (same wordKthxbai (frameAt 0 msg)) (kthxbaiChecks subtree (fieldsOf msg)) (kvsyncChecks subtree (fieldsOf msg)))
+snapshotPort subtree msg = framed 5 msg ++ snapshotChecks subtree (fieldsOf msg)
 
 -- the client's for what is published: HUGZ, or else KVPUB
 abbrev pub subscriberPort : Bytes → List (Check Refusal)
-subscriberPort msg = framed 5 msg (cond (same wordHugz (frameAt 0 msg)) (hugzChecks (fieldsOf msg)) (kvpubChecks (fieldsOf msg)))
+subscriberPort msg = framed 5 msg ++ publishedChecks (fieldsOf msg)
 
 -- ---- the value entries
 -- any five frames
 abbrev pub valuePort : Bytes → List (Check Refusal)
-valuePort msg = framed 5 msg []
+valuePort msg = framed 5 msg
 
 abbrev pub valueFor : Option Refusal → Bytes → Bytes
 valueFor none value = value

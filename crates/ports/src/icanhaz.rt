@@ -1,8 +1,8 @@
 // The server's port for ICANHAZ, with the identity in front.
+use crate::framing::check_framing;
 use answers::refusal::Refusal;
 use answers::refusal::Verdict;
 use frames::read;
-use frames::read::Framing;
 use messages::REQUEST_FRAMES;
 use names::keys;
 use names::lengths;
@@ -33,11 +33,8 @@ fn check_icanhaz_frames(msg: &[u8]) -> Verdict
 pub fn check_icanhaz(msg: &[u8]) -> Verdict
     ensures { λ r. ⌜ r ≡ verdict (firstOf (icanhazPort (now (msg .entry)))) ⌝ }
 {
-    let Framing::Frames(n) = read::count_frames(msg) else {
-        return Verdict::Refuse(Refusal::Framing);
-    };
-    if n != REQUEST_FRAMES {
-        return Verdict::Refuse(Refusal::FrameCount);
+    match check_framing(msg, REQUEST_FRAMES) {
+        Verdict::Refuse(r) => Verdict::Refuse(r),
+        Verdict::Accept => check_icanhaz_frames(msg),
     }
-    check_icanhaz_frames(msg)
 }

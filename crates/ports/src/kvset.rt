@@ -1,9 +1,9 @@
 // The server's port for KVSET.
+use crate::framing::check_framing;
 use crate::update::check_payload;
 use answers::refusal::Refusal;
 use answers::refusal::Verdict;
 use frames::read;
-use frames::read::Framing;
 use messages::FRAMES;
 use messages::HEAD;
 use messages::PROPERTIES;
@@ -40,11 +40,8 @@ fn check_kvset_frames(msg: &[u8]) -> Verdict
 pub fn check_kvset(msg: &[u8]) -> Verdict
     ensures { λ r. ⌜ r ≡ verdict (firstOf (kvsetPort (now (msg .entry)))) ⌝ }
 {
-    let Framing::Frames(n) = read::count_frames(msg) else {
-        return Verdict::Refuse(Refusal::Framing);
-    };
-    if n != FRAMES {
-        return Verdict::Refuse(Refusal::FrameCount);
+    match check_framing(msg, FRAMES) {
+        Verdict::Refuse(r) => Verdict::Refuse(r),
+        Verdict::Accept => check_kvset_frames(msg),
     }
-    check_kvset_frames(msg)
 }

@@ -1,4 +1,5 @@
 // The ports that take messages: what each refuses by the frames alone, in the order of the refusals, and the two value entries.
+mod framing;
 pub mod icanhaz;
 pub mod kvset;
 pub mod snapshot;

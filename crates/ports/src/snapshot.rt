@@ -1,9 +1,9 @@
 // The client's port for snapshots: KTHXBAI, or else KVSYNC.
+use crate::framing::check_framing;
 use answers::refusal::Refusal;
 use answers::refusal::Verdict;
 use base::bytes;
 use frames::read;
-use frames::read::Framing;
 use messages::FRAMES;
 use messages::HEAD;
 use messages::PROPERTIES;
@@ -19,7 +19,7 @@ ghost use mathlib.Core.Path.{_≡_};
 ghost use Rattle.base.specs.Checks.{firstOf};
 ghost use Rattle.answers.specs.Refusals.{verdict};
 ghost use Rattle.ports.specs.Bodies.{bodiesOf};
-ghost use Rattle.ports.specs.Ports.{kvsyncChecks, kthxbaiChecks, snapshotPort};
+ghost use Rattle.ports.specs.Ports.{kvsyncChecks, kthxbaiChecks, snapshotChecks, snapshotPort};
 
 // The frames of a KVSYNC in the snapshot of a subtree.
 fn check_kvsync_frames(msg: &[u8], subtree: &[u8]) -> Verdict
@@ -73,18 +73,22 @@ fn check_kthxbai_frames(msg: &[u8], subtree: &[u8]) -> Verdict
     Verdict::Accept
 }
 
-// The client's port for snapshots of its subtree: KTHXBAI, or else KVSYNC.
-pub fn check_snapshot(msg: &[u8], subtree: &[u8]) -> Verdict
-    ensures { λ r. ⌜ r ≡ verdict (firstOf (snapshotPort (now (subtree .entry)) (now (msg .entry)))) ⌝ }
+// The frames of a KTHXBAI, or else of a KVSYNC.
+fn check_snapshot_frames(msg: &[u8], subtree: &[u8]) -> Verdict
+    ensures { λ r. ⌜ r ≡ verdict (firstOf (snapshotChecks (now (subtree .entry)) (bodiesOf (now (msg .entry))))) ⌝ }
 {
-    let Framing::Frames(n) = read::count_frames(msg) else {
-        return Verdict::Refuse(Refusal::Framing);
-    };
-    if n != FRAMES {
-        return Verdict::Refuse(Refusal::FrameCount);
-    }
     if words::is_kthxbai(read::body(msg, HEAD)) {
         return check_kthxbai_frames(msg, subtree);
     }
     check_kvsync_frames(msg, subtree)
+}
+
+// The client's port for snapshots of its subtree: KTHXBAI, or else KVSYNC.
+pub fn check_snapshot(msg: &[u8], subtree: &[u8]) -> Verdict
+    ensures { λ r. ⌜ r ≡ verdict (firstOf (snapshotPort (now (subtree .entry)) (now (msg .entry)))) ⌝ }
+{
+    match check_framing(msg, FRAMES) {
+        Verdict::Refuse(r) => Verdict::Refuse(r),
+        Verdict::Accept => check_snapshot_frames(msg, subtree),
+    }
 }

@@ -1,9 +1,9 @@
 // The client's port for what is published: HUGZ, or else KVPUB.
+use crate::framing::check_framing;
 use crate::update::check_payload;
 use answers::refusal::Refusal;
 use answers::refusal::Verdict;
 use frames::read;
-use frames::read::Framing;
 use messages::FRAMES;
 use messages::HEAD;
 use messages::PROPERTIES;
@@ -18,7 +18,7 @@ ghost use mathlib.Core.Path.{_≡_};
 ghost use Rattle.base.specs.Checks.{firstOf};
 ghost use Rattle.answers.specs.Refusals.{verdict};
 ghost use Rattle.ports.specs.Bodies.{bodiesOf};
-ghost use Rattle.ports.specs.Ports.{kvpubChecks, hugzChecks, subscriberPort};
+ghost use Rattle.ports.specs.Ports.{kvpubChecks, hugzChecks, publishedChecks, subscriberPort};
 
 // The frames of a KVPUB.
 fn check_kvpub_frames(msg: &[u8]) -> Verdict
@@ -62,18 +62,22 @@ fn check_hugz_frames(msg: &[u8]) -> Verdict
     Verdict::Accept
 }
 
-// The client's port for what is published: HUGZ, or else KVPUB.
-pub fn check_subscriber(msg: &[u8]) -> Verdict
-    ensures { λ r. ⌜ r ≡ verdict (firstOf (subscriberPort (now (msg .entry)))) ⌝ }
+// The frames of a HUGZ, or else of a KVPUB.
+fn check_published_frames(msg: &[u8]) -> Verdict
+    ensures { λ r. ⌜ r ≡ verdict (firstOf (publishedChecks (bodiesOf (now (msg .entry))))) ⌝ }
 {
-    let Framing::Frames(n) = read::count_frames(msg) else {
-        return Verdict::Refuse(Refusal::Framing);
-    };
-    if n != FRAMES {
-        return Verdict::Refuse(Refusal::FrameCount);
-    }
     if words::is_hugz(read::body(msg, HEAD)) {
         return check_hugz_frames(msg);
     }
     check_kvpub_frames(msg)
+}
+
+// The client's port for what is published: HUGZ, or else KVPUB.
+pub fn check_subscriber(msg: &[u8]) -> Verdict
+    ensures { λ r. ⌜ r ≡ verdict (firstOf (subscriberPort (now (msg .entry)))) ⌝ }
+{
+    match check_framing(msg, FRAMES) {
+        Verdict::Refuse(r) => Verdict::Refuse(r),
+        Verdict::Accept => check_published_frames(msg),
+    }
 }

@@ -1,9 +1,8 @@
 // The two value entries: the value frame of any five-frame message, and why there is none.
+use crate::framing::check_framing;
 use answers::refusal;
-use answers::refusal::Refusal;
 use answers::refusal::Verdict;
 use frames::read;
-use frames::read::Framing;
 use messages::FRAMES;
 use messages::VALUE;
 ghost use mathlib.Core.Path.{_≡_};
@@ -15,12 +14,9 @@ ghost use Rattle.ports.specs.Ports.{valuePort, valueIn};
 pub fn value_frame(msg: &[u8]) -> &[u8]
     ensures { λ r. ⌜ now r ≡ valueIn (now (msg .entry)) ⌝ }
 {
-    let Framing::Frames(n) = read::count_frames(msg) else {
+    let Verdict::Accept = check_framing(msg, FRAMES) else {
         return &msg[..0];
     };
-    if n != FRAMES {
-        return &msg[..0];
-    }
     read::body(msg, VALUE)
 }
 
@@ -28,11 +24,5 @@ pub fn value_frame(msg: &[u8]) -> &[u8]
 pub fn value_refusal(msg: &[u8]) -> u64
     ensures { λ r. ⌜ r ≡ verdictNumber (verdict (firstOf (valuePort (now (msg .entry))))) ⌝ }
 {
-    let Framing::Frames(n) = read::count_frames(msg) else {
-        return refusal::verdict_number(Verdict::Refuse(Refusal::Framing));
-    };
-    if n != FRAMES {
-        return refusal::verdict_number(Verdict::Refuse(Refusal::FrameCount));
-    }
-    refusal::verdict_number(Verdict::Accept)
+    refusal::verdict_number(check_framing(msg, FRAMES))
 }

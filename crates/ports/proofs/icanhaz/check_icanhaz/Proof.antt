@@ -1,66 +1,59 @@
 -- `ports::icanhaz::check_icanhaz` meets its contract: the framing, the count of frames, and then the frames. Assumes nothing.
 use Prim.Native.Nat.{ℕ, _<_}
 use native.Mathlib.Omega.{arith}
-use mathlib.Core.Path.{_≡_, refl, sym, _∙_}
+use mathlib.Core.List.{List}
+use mathlib.Core.Path.{_≡_, sym, _∙_}
 use borrow.Author.Needs.{needs}
 use denote.Ref.{now}
+use Rattle.answers.proofs.VerdictLaws.{past-accepted, past-refused}
 use Rattle.answers.specs.Refusals.{verdict}
-use Rattle.answers.specs.declared.refusal.Verdict.{Verdict}
-use Rattle.base.proofs.CheckLaws.{Left}
-use Rattle.base.specs.Checks.{firstOf}
+use Rattle.answers.specs.declared.refusal.Refusal.{Refusal}
+use Rattle.answers.specs.declared.refusal.Verdict.the-variants.{Accept}
+use Rattle.base.specs.Checks.{Check, firstOf}
 use Rattle.base.specs.Cuts.{before}
-use Rattle.frames.specs.Messages.{framingOf, bodyAt}
-use Rattle.frames.specs.declared.read.Framing.the-variants.{Frames}
+use Rattle.frames.specs.Messages.{bodyAt}
 use Rattle.messages.specs.Fields.{frameAt}
-use Rattle.ports.proofs.PortLaws.{frame-is, refuse-framing, refuse-count, framed-well}
-use Rattle.ports.specs.Ports.{icanhazPort}
+use Rattle.ports.proofs.PortLaws.{frame-is}
+use Rattle.ports.specs.Ports.{framed, icanhazChecks}
 use Rattle.ports.proofs.icanhaz.check_icanhaz.Statement.{statement}
 use Rattle.ports.proofs.icanhaz.check_icanhaz.Tie as tie
 
-abbrev answer : tie.Start → Verdict
-answer s = verdict (firstOf (icanhazPort (now (s .args .msg))))
+accepted-so : (c : tie.After-enum-told) → Accept ≡ verdict (firstOf (framed 3 (now (c .before .before .before .before .args .msg))))
+accepted-so c = sym (c .enum-told .given .1) ∙ c .before .before .check-framing .ensures
 
-whole : (s : tie.Start) → Left verdict (answer s) (icanhazPort (now (s .args .msg)))
-whole s = record { is = refl }
+part : (c : tie.After-enum-told) (k : ℕ) → k < 3 → bodyAt k (now (c .before .before .before .before .args .msg)) ≡ frameAt k (now (c .before .before .before .before .args .msg))
+part c = frame-is 3 _ (accepted-so c)
 
-counted-as : (c : tie.After-n) → Frames (c .n .given .0 .0) ≡ framingOf (now (c .before .before .before .before .args .msg))
-counted-as c = sym (c .n .given .1) ∙ c .before .before .count-frames .ensures
+abbrev frames : tie.Start → List (Check Refusal)
+frames s =
+    let msg = now (s .args .msg) in
+    icanhazChecks (frameAt 0 msg) (frameAt 1 msg) (frameAt 2 msg)
 
-part : (c : tie.Else1) (k : ℕ) → k < 3 → bodyAt k (now (c .before .before .before .before .before .before .args .msg)) ≡ frameAt k (now (c .before .before .before .before .before .before .args .msg))
-part c k h = frame-is _ _ (counted-as (c .before .before)) k (omega arith)
+check-framing-requires : tie.Need-check-framing-requires
+check-framing-requires c κs = search needs
 
-count-frames-requires : tie.Need-count-frames-requires
-count-frames-requires c κs = search needs
-
-enum-known-n : tie.Need-enum-known-n
-enum-known-n c = search needs
+enum-known-r : tie.Need-enum-known-r
+enum-known-r c = search needs
 
 enum-told : tie.Need-enum-told
 enum-told c = search needs
 
-returns : tie.Need-returns
-returns c = refuse-framing 3 _ (whole (c .before .before .before .before)) (sym (c .enum-told .given .1) ∙ c .before .before .count-frames .ensures)
-
-returns-2 : tie.Need-returns-2
-returns-2 c = refuse-count 3 _ (whole (c .before .before .before .before .before .before)) _ (counted-as (c .before .before)) (c .if1 .taken)
-
 check-icanhaz-frames-requires : tie.Need-check-icanhaz-frames-requires
 check-icanhaz-frames-requires c κs = search needs
 
-returns-3 : tie.Need-returns-3
-returns-3 c =
-    c .check-icanhaz-frames .ensures
-    ∙ rw (part (c .before) 0 (omega arith), part (c .before) 1 (omega arith), part (c .before) 2 (omega arith))
-    (sym (framed-well 3 _ (whole (c .before .before .before .before .before .before .before)) _ (counted-as (c .before .before .before)) (c .before .if1 .left) .is))
+returns : tie.Need-returns
+returns c = past-refused (framed 3 (now (c .before .before .before .before .before .args .msg))) (frames (c .before .before .before .before .before)) _ (sym (c .before .r .given .1) ∙ c .before .before .before .check-framing .ensures)
+
+returns-2 : tie.Need-returns-2
+returns-2 c = c .check-icanhaz-frames .ensures ∙ rw (part (c .before) 0 (omega arith), part (c .before) 1 (omega arith), part (c .before) 2 (omega arith), past-accepted (framed 3 (now (c .before .before .before .before .before .args .msg))) (frames (c .before .before .before .before .before)) (accepted-so (c .before)))
 
 pub check-icanhaz-spec : {M : Type 1} → statement M
 check-icanhaz-spec =
     tie.close
     (tie.spec
-    count-frames-requires
-    enum-known-n
+    check-framing-requires
+    enum-known-r
     enum-told
-    returns
-    returns-2
     check-icanhaz-frames-requires
-    returns-3)
+    returns
+    returns-2)
