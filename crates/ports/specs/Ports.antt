@@ -15,7 +15,7 @@ use Rattle.frames.specs.Messages.{framesIn}
 use Rattle.messages.specs.Fields.{Fields, partsOf, frameAt, fieldsOf}
 use Rattle.names.specs.Keys.{isKey, isSubtree, under}
 use Rattle.names.specs.Lengths.{isUuid, isIdentity, isValue}
-use Rattle.names.specs.Numbers.{maxSequence, sequence, isSequence}
+use Rattle.names.specs.Numbers.{maxSequence, isSequence}
 use Rattle.names.specs.Words.{wordIcanhaz, wordKthxbai, wordHugz}
 use Rattle.properties.specs.Properties.{propertiesOf, isGood}
 

@@ -1,6 +1,5 @@
 -- `answers::answer::refusal_in` meets its contract, by the kind. Assumes nothing.
 use borrow.Author.Needs.{needs}
-use Rattle.base.specs.Cuts.{before}
 use Rattle.answers.proofs.answer.refusal_in.Statement.{statement}
 use Rattle.answers.proofs.answer.refusal_in.Tie as tie
 

@@ -3,7 +3,6 @@ use mathlib.Core.Path.{ap, _∙_}
 use borrow.Author.Needs.{needs}
 use borrow.Author.Tests.{eq-eqb, ne-eqb}
 use Rattle.base.proofs.OctetLaws.{joined-number}
-use Rattle.base.specs.Cuts.{before}
 use Rattle.base.specs.Octets.{eightOf}
 use Rattle.base.specs.declared.octets.Eight.the-variants.{Number}
 use Rattle.base.proofs.octets.read_eight.Statement.{statement}

@@ -2,7 +2,6 @@
 use native.Mathlib.Omega.{arith}
 use mathlib.Core.Path.{_≡_, refl, sym, _∙_}
 use borrow.Author.Needs.{needs}
-use Rattle.base.specs.Cuts.{before}
 use Rattle.frames.proofs.MessageLaws.{body-turn, body-first}
 use Rattle.frames.specs.Messages.{bodyAt}
 use Rattle.frames.proofs.read.body.Statement.{statement}

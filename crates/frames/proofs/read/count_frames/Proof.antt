@@ -8,7 +8,6 @@ use borrow.Author.Needs.{needs}
 use borrow.Author.Tests.{not-true, not-false}
 use denote.Ref.{now}
 use Rattle.base.specs.Bytes.{Bytes}
-use Rattle.base.specs.Cuts.{before}
 use Rattle.frames.proofs.MessageLaws.{rest-shorter, onward, onward-none, count-broken, count-more, count-last, count-surplus}
 use Rattle.frames.proofs.StepLaws.{step-known}
 use Rattle.frames.specs.Messages.{framingOf}

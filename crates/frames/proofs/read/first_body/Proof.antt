@@ -5,7 +5,6 @@ use mathlib.Core.Path.{_≡_, sym, _∙_}
 use lib.ListN.{length}
 use borrow.Author.Needs.{needs}
 use denote.Ref.{now}
-use Rattle.base.specs.Cuts.{before}
 use Rattle.frames.proofs.MessageLaws.{no-body, body-is}
 use Rattle.frames.proofs.StepLaws.{step-known}
 use Rattle.frames.specs.Steps.{stepOf}

@@ -4,7 +4,6 @@ use mathlib.Core.Path.{refl, sym, _∙_}
 use lib.ListN.{getD}
 use borrow.Author.Needs.{needs}
 use denote.Ref.{now}
-use Rattle.base.specs.Cuts.{before}
 use Rattle.frames.proofs.StepLaws.{step-none, step-flag, flagged-refused}
 use Rattle.frames.specs.Steps.{flagged}
 use Rattle.frames.proofs.step.first_frame.Statement.{statement}

@@ -3,7 +3,6 @@ use mathlib.Core.Path.{sym, _∙_}
 use lib.Seq.{length-take-le}
 use borrow.Author.Needs.{needs}
 use denote.Ref.{now}
-use Rattle.base.specs.Cuts.{before}
 use Rattle.frames.proofs.StepLaws.{long-none, size-never, long-read}
 use Rattle.frames.proofs.step.long_size.Statement.{statement}
 use Rattle.frames.proofs.step.long_size.Tie as tie

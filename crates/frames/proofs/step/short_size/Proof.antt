@@ -2,7 +2,6 @@
 use native.Mathlib.Omega.{arith}
 use mathlib.Core.Path.{sym, _∙_}
 use borrow.Author.Needs.{needs}
-use Rattle.base.specs.Cuts.{before}
 use Rattle.frames.proofs.StepLaws.{short-none, short-some}
 use Rattle.frames.proofs.step.short_size.Statement.{statement}
 use Rattle.frames.proofs.step.short_size.Tie as tie

@@ -2,7 +2,6 @@
 use native.Mathlib.Omega.{arith}
 use borrow.Author.Needs.{needs}
 use borrow.Author.Tests.{le-leb, lt-leb}
-use Rattle.base.specs.Cuts.{before}
 use Rattle.frames.proofs.write.frame_length.Statement.{statement}
 use Rattle.frames.proofs.write.frame_length.Tie as tie
 

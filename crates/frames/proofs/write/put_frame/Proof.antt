@@ -7,8 +7,7 @@ use lib.ListN.{length}
 use borrow.Author.Needs.{needs}
 use denote.Ref.{now}
 use Rattle.base.proofs.OutputLaws.{has-room, lacks-room, no-room, both}
-use Rattle.base.specs.Cuts.{before}
-use Rattle.frames.proofs.FrameLaws.{frame-length, frame-room}
+use Rattle.frames.proofs.FrameLaws.{frame-room}
 use Rattle.frames.specs.Messages.{frame}
 use Rattle.frames.proofs.write.put_frame.Statement.{statement}
 use Rattle.frames.proofs.write.put_frame.Tie as tie

@@ -1,7 +1,6 @@
 -- `frames::write::put_header` meets its contract: a short head is two bytes and a long one nine. Assumes nothing.
 use borrow.Author.Needs.{needs}
 use borrow.Author.Tests.{le-leb, lt-leb}
-use Rattle.base.specs.Cuts.{before}
 use Rattle.base.specs.Octets.{octets}
 use Rattle.frames.proofs.FrameLaws.{listed-octets}
 use Rattle.frames.proofs.write.put_header.Statement.{statement}

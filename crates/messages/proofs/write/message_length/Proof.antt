@@ -3,8 +3,6 @@ use Prim.Native.Nat.{_+_}
 use mathlib.Core.Path.{refl}
 use borrow.Author.Needs.{needs}
 use Rattle.base.proofs.OutputLaws.{clamped-sum}
-use Rattle.base.specs.Cuts.{before}
-use Rattle.frames.proofs.FrameLaws.{frame-length}
 use Rattle.frames.specs.Messages.{frameLength}
 use Rattle.messages.proofs.write.message_length.Statement.{statement}
 use Rattle.messages.proofs.write.message_length.Tie as tie

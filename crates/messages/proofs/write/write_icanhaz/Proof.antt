@@ -7,8 +7,6 @@ use lib.ListN.{length}
 use borrow.Author.Needs.{needs}
 use denote.Ref.{now}
 use Rattle.base.proofs.OutputLaws.{has-room, lacks-room, no-room}
-use Rattle.base.specs.Cuts.{before}
-use Rattle.frames.proofs.FrameLaws.{frame-length}
 use Rattle.messages.proofs.WriteLaws.{icanhaz-room, icanhaz-written}
 use Rattle.messages.specs.Fields.{icanhaz}
 use Rattle.messages.proofs.write.write_icanhaz.Statement.{statement}

@@ -9,8 +9,7 @@ use borrow.Author.Needs.{needs}
 use denote.Ref.{now}
 use Rattle.base.proofs.OctetLaws.{length-octets}
 use Rattle.base.proofs.OutputLaws.{has-room, lacks-room, no-room}
-use Rattle.base.specs.Cuts.{before}
-use Rattle.base.specs.Octets.{number, octets}
+use Rattle.base.specs.Octets.{octets}
 use Rattle.messages.proofs.WriteLaws.{message-room, five-written}
 use Rattle.messages.specs.Fields.{Fields, fields, bytesOf}
 use Rattle.messages.proofs.write.write_message.Statement.{statement}

@@ -9,7 +9,6 @@ use Rattle.answers.specs.Refusals.{verdict}
 use Rattle.answers.specs.declared.refusal.Refusal.{Refusal}
 use Rattle.base.proofs.CheckLaws.{Left, pass, stop, done}
 use Rattle.base.specs.Checks.{Check, firstOf}
-use Rattle.base.specs.Cuts.{before}
 use Rattle.frames.specs.Messages.{framingOf}
 use Rattle.frames.specs.declared.read.Framing.the-variants.{Frames}
 use Rattle.ports.proofs.PortLaws.{unsound, sound, count-is}

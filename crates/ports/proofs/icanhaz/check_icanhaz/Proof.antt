@@ -10,7 +10,6 @@ use Rattle.answers.specs.Refusals.{verdict}
 use Rattle.answers.specs.declared.refusal.Refusal.{Refusal}
 use Rattle.answers.specs.declared.refusal.Verdict.the-variants.{Accept}
 use Rattle.base.specs.Checks.{Check, firstOf}
-use Rattle.base.specs.Cuts.{before}
 use Rattle.frames.specs.Messages.{bodyAt}
 use Rattle.messages.specs.Fields.{frameAt}
 use Rattle.ports.proofs.PortLaws.{frame-is}

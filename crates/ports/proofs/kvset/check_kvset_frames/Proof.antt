@@ -9,7 +9,6 @@ use Rattle.answers.specs.declared.refusal.Refusal.{Refusal}
 use Rattle.answers.specs.declared.refusal.Verdict.{Verdict}
 use Rattle.base.proofs.CheckLaws.{Left, pass, stop}
 use Rattle.base.specs.Checks.{Check, firstOf}
-use Rattle.base.specs.Cuts.{before}
 use Rattle.names.specs.Keys.{isKey}
 use Rattle.ports.proofs.PortLaws.{told, unnumbered-stop, numbered-pass}
 use Rattle.ports.specs.Bodies.{bodiesOf}

@@ -12,7 +12,6 @@ use Rattle.answers.specs.declared.refusal.Verdict.{Verdict}
 use Rattle.base.proofs.CheckLaws.{Left, pass, stop, done}
 use Rattle.base.specs.Bytes.{same}
 use Rattle.base.specs.Checks.{Check, firstOf}
-use Rattle.base.specs.Cuts.{before}
 use Rattle.base.specs.Octets.{number}
 use Rattle.frames.specs.Messages.{bodyAt}
 use Rattle.names.specs.Numbers.{maxSequence, numberedOf}

@@ -10,7 +10,6 @@ use Rattle.answers.specs.declared.refusal.Refusal.{Refusal}
 use Rattle.answers.specs.declared.refusal.Verdict.{Verdict}
 use Rattle.base.proofs.CheckLaws.{Left, pass, stop, done}
 use Rattle.base.specs.Checks.{Check, firstOf}
-use Rattle.base.specs.Cuts.{before}
 use Rattle.names.specs.Keys.{isKey, under}
 use Rattle.names.specs.Lengths.{isValue}
 use Rattle.ports.proofs.PortLaws.{told, empty-pass, empty-stop, unnumbered-stop, numbered-pass}

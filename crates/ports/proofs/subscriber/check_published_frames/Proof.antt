@@ -4,7 +4,6 @@ use mathlib.Core.Path.{_≡_, _∙_}
 use borrow.Author.Needs.{needs}
 use denote.Ref.{now}
 use Rattle.base.specs.Bytes.{same}
-use Rattle.base.specs.Cuts.{before}
 use Rattle.frames.specs.Messages.{bodyAt}
 use Rattle.names.specs.Words.{wordHugz}
 use Rattle.ports.proofs.subscriber.check_published_frames.Statement.{statement}

@@ -3,7 +3,6 @@ use mathlib.Core.Path.{sym, _∙_}
 use borrow.Author.Needs.{needs}
 use denote.Ref.{now}
 use Rattle.answers.proofs.VerdictLaws.{past-refused}
-use Rattle.base.specs.Cuts.{before}
 use Rattle.messages.specs.Fields.{fieldsOf}
 use Rattle.ports.proofs.PortLaws.{by-fields}
 use Rattle.ports.specs.Ports.{framed, publishedChecks}

@@ -9,7 +9,6 @@ use Rattle.answers.specs.declared.refusal.Refusal.{Refusal}
 use Rattle.answers.specs.declared.refusal.Verdict.{Verdict}
 use Rattle.base.proofs.CheckLaws.{Left, pass, stop, done}
 use Rattle.base.specs.Checks.{Check, firstOf}
-use Rattle.base.specs.Cuts.{before}
 use Rattle.ports.proofs.PortLaws.{asked, good-pass, good-stop}
 use Rattle.ports.specs.Ports.{payloadChecks}
 use Rattle.ports.proofs.update.check_payload.Statement.{statement}

@@ -7,7 +7,6 @@ use Rattle.answers.specs.Refusals.{verdict}
 use Rattle.answers.specs.declared.refusal.Refusal.{Refusal}
 use Rattle.base.proofs.CheckLaws.{Left, pass, stop}
 use Rattle.base.specs.Checks.{Check, firstOf}
-use Rattle.base.specs.Cuts.{before}
 use Rattle.ports.proofs.PortLaws.{asked}
 use Rattle.ports.specs.Ports.{updateChecks}
 use Rattle.ports.proofs.update.check_update.Statement.{statement}

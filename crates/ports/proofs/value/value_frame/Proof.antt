@@ -7,7 +7,6 @@ use Rattle.answers.proofs.VerdictLaws.{accepted, refused}
 use Rattle.answers.specs.Refusals.{verdict}
 use Rattle.answers.specs.declared.refusal.Verdict.the-variants.{Accept}
 use Rattle.base.specs.Checks.{firstOf}
-use Rattle.base.specs.Cuts.{before}
 use Rattle.ports.proofs.PortLaws.{frame-is}
 use Rattle.ports.specs.Ports.{framed, valueIn}
 use Rattle.ports.proofs.value.value_frame.Statement.{statement}

@@ -2,7 +2,6 @@
 use mathlib.Core.Path.{ap, _∙_}
 use borrow.Author.Needs.{needs}
 use Rattle.answers.specs.Refusals.{verdictNumber}
-use Rattle.base.specs.Cuts.{before}
 use Rattle.ports.proofs.value.value_refusal.Statement.{statement}
 use Rattle.ports.proofs.value.value_refusal.Tie as tie
 

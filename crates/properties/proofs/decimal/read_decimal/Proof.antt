@@ -5,8 +5,6 @@ use mathlib.Core.Path.{_≡_, sym}
 use lib.ListN.{length, getD, drop}
 use borrow.Author.Needs.{needs}
 use denote.Ref.{now}
-use Rattle.base.specs.Cuts.{before}
-use Rattle.base.specs.Output.{fits}
 use Rattle.properties.proofs.DecimalLaws.{digitsLeft, no-digits, too-many, digits-begin, digit-turn, digit-low, digit-high, digits-done, too-large}
 use Rattle.properties.specs.Decimals.{decimalOf}
 use Rattle.properties.proofs.decimal.read_decimal.Statement.{statement}

@@ -1,6 +1,5 @@
 -- `properties::read::add_line` meets its contract, by what the line says and what the lines before it said. Assumes nothing.
 use borrow.Author.Needs.{needs}
-use Rattle.base.specs.Cuts.{before}
 use Rattle.properties.proofs.read.add_line.Statement.{statement}
 use Rattle.properties.proofs.read.add_line.Tie as tie
 

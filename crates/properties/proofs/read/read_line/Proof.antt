@@ -7,7 +7,7 @@ use lib.Seq.{length-take-le}
 use borrow.Author.Needs.{needs}
 use denote.Ref.{now}
 use Rattle.base.proofs.CutLaws.{cut-at}
-use Rattle.base.specs.Cuts.{foundOf, before}
+use Rattle.base.specs.Cuts.{foundOf}
 use Rattle.base.specs.declared.bytes.Position.the-variants.{At, Nowhere}
 use Rattle.properties.proofs.LineLaws.{line-nul, line-bare, line-nameless, line-other, line-ttl}
 use Rattle.properties.specs.declared.decimal.Decimal.the-variants.{Is, Wrong}

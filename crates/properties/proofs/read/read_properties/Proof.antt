@@ -7,7 +7,7 @@ use lib.Seq.{length-take-le}
 use borrow.Author.Needs.{needs}
 use denote.Ref.{now}
 use Rattle.base.proofs.CutLaws.{tail-length, cut-at}
-use Rattle.base.specs.Cuts.{foundOf, before, pieces}
+use Rattle.base.specs.Cuts.{foundOf, pieces}
 use Rattle.base.specs.declared.bytes.Position.the-variants.{At}
 use Rattle.properties.proofs.PropertyLaws.{linesLeft, too-long, lines-begin, lines-end, unended, bad-line, good-line}
 use Rattle.properties.specs.Properties.{propertiesOf}

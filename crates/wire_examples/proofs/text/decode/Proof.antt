@@ -5,7 +5,6 @@ use mathlib.Core.Logic.{⊎-elim}
 use mathlib.Core.Path.{_≡_}
 use lib.ListN.{length}
 use borrow.Author.Needs.{needs}
-use Rattle.base.specs.Cuts.{before}
 use Rattle.wire_examples.proofs.text.decode.Statement.{statement}
 use Rattle.wire_examples.proofs.text.decode.Tie as tie
 

@@ -3,7 +3,6 @@ use mathlib.Core.Path.{sym}
 use lib.Seq.{length-take-le}
 use borrow.Author.Needs.{needs}
 use denote.Ref.{now}
-use Rattle.base.specs.Cuts.{before}
 use Rattle.wire_examples.proofs.text.front.Statement.{statement}
 use Rattle.wire_examples.proofs.text.front.Tie as tie
 

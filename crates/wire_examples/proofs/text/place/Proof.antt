@@ -3,8 +3,6 @@ use native.Mathlib.Omega.{arith}
 use mathlib.Core.Path.{sym, _∙_}
 use borrow.Author.Needs.{needs}
 use Rattle.base.proofs.CutLaws.{cut-at}
-use Rattle.base.specs.Cuts.{before}
-use Rattle.names.specs.Grammar.Subtree.{below}
 use Rattle.wire_examples.proofs.text.place.Statement.{statement}
 use Rattle.wire_examples.proofs.text.place.Tie as tie
 
