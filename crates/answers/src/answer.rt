@@ -92,18 +92,6 @@ pub fn refusal_in(kind: Kind) -> u64
 {
     match kind {
         Kind::Refused(r, _) => refusal::refusal_number(r),
-        Kind::Started(_) => 0,
-        Kind::Applied(_) => 0,
-        Kind::Stale(_) => 0,
-        Kind::Outside(_) => 0,
-        Kind::Synced(_) => 0,
-        Kind::Live(_) => 0,
-        Kind::Heard(_) => 0,
-        Kind::Wrote(_) => 0,
-        Kind::Nothing(_) => 0,
-        Kind::Found(_) => 0,
-        Kind::Absent(_) => 0,
-        Kind::Present(_) => 0,
-        Kind::Gone(_) => 0,
+        _ => 0,
     }
 }

@@ -1,7 +1,36 @@
--- `answers::answer::refusal_in` meets its contract, by the kind. Assumes nothing.
+-- `answers::answer::refusal_in` meets its contract: one kind alone has a refusal. Assumes nothing.
+use Prim.Native.Nat.{ℕ}
+use mathlib.Core.List.{List, [], _∷_}
+use mathlib.Core.Path.{_≡_, refl}
 use borrow.Author.Needs.{needs}
+use denote.Enum.Declared.{tagOf}
+use types.Run.{OneOf, miss}
+use Rattle.answers.specs.Answers.{refusalIn}
+use Rattle.answers.specs.declared.answer.Kind.the-variants.{Refused, Started, Applied, Stale, Outside, Synced, Live, Heard, Wrote, Nothing, Found, Absent, Present, Gone}
+use Rattle.answers.specs.declared.answer.Kind.{Kind}
+use Rattle.answers.proofs.answer.Kind.{the-type}
 use Rattle.answers.proofs.answer.refusal_in.Statement.{statement}
 use Rattle.answers.proofs.answer.refusal_in.Tie as tie
+
+-- the kinds but the first
+abbrev others : List ℕ
+others = 1 ∷ 2 ∷ 3 ∷ 4 ∷ 5 ∷ 6 ∷ 7 ∷ 8 ∷ 9 ∷ 10 ∷ 11 ∷ 12 ∷ 13 ∷ []
+
+no-refusal : (kind : Kind) → OneOf others (tagOf the-type kind) → 0 ≡ refusalIn kind
+no-refusal (Refused r n) h = absurd (miss others 0 tt h)
+no-refusal (Started n) h = refl
+no-refusal (Applied n) h = refl
+no-refusal (Stale n) h = refl
+no-refusal (Outside n) h = refl
+no-refusal (Synced n) h = refl
+no-refusal (Live n) h = refl
+no-refusal (Heard n) h = refl
+no-refusal (Wrote n) h = refl
+no-refusal (Nothing n) h = refl
+no-refusal (Found n) h = refl
+no-refusal (Absent n) h = refl
+no-refusal (Present n) h = refl
+no-refusal (Gone n) h = refl
 
 enum-known-kind : tie.Need-enum-known-kind
 enum-known-kind c = search needs
@@ -9,117 +38,11 @@ enum-known-kind c = search needs
 refusal-number-requires : tie.Need-refusal-number-requires
 refusal-number-requires c κs = search needs
 
-enum-told : tie.Need-enum-told
-enum-told c = search needs
-
-enum-told-2 : tie.Need-enum-told-2
-enum-told-2 c = search needs
-
-enum-told-3 : tie.Need-enum-told-3
-enum-told-3 c = search needs
-
-enum-told-4 : tie.Need-enum-told-4
-enum-told-4 c = search needs
-
-enum-told-5 : tie.Need-enum-told-5
-enum-told-5 c = search needs
-
-enum-told-6 : tie.Need-enum-told-6
-enum-told-6 c = search needs
-
-enum-told-7 : tie.Need-enum-told-7
-enum-told-7 c = search needs
-
-enum-told-8 : tie.Need-enum-told-8
-enum-told-8 c = search needs
-
-enum-told-9 : tie.Need-enum-told-9
-enum-told-9 c = search needs
-
-enum-told-10 : tie.Need-enum-told-10
-enum-told-10 c = search needs
-
-enum-told-11 : tie.Need-enum-told-11
-enum-told-11 c = search needs
-
-enum-told-12 : tie.Need-enum-told-12
-enum-told-12 c = search needs
-
-enum-told-13 : tie.Need-enum-told-13
-enum-told-13 c = search needs
-
 returns : tie.Need-returns
 returns c = rw (c .before .before .kind .given .1) (c .refusal-number .ensures)
 
 returns-2 : tie.Need-returns-2
-returns-2 c = search needs
-
-returns-3 : tie.Need-returns-3
-returns-3 c = search needs
-
-returns-4 : tie.Need-returns-4
-returns-4 c = search needs
-
-returns-5 : tie.Need-returns-5
-returns-5 c = search needs
-
-returns-6 : tie.Need-returns-6
-returns-6 c = search needs
-
-returns-7 : tie.Need-returns-7
-returns-7 c = search needs
-
-returns-8 : tie.Need-returns-8
-returns-8 c = search needs
-
-returns-9 : tie.Need-returns-9
-returns-9 c = search needs
-
-returns-10 : tie.Need-returns-10
-returns-10 c = search needs
-
-returns-11 : tie.Need-returns-11
-returns-11 c = search needs
-
-returns-12 : tie.Need-returns-12
-returns-12 c = search needs
-
-returns-13 : tie.Need-returns-13
-returns-13 c = search needs
-
-returns-14 : tie.Need-returns-14
-returns-14 c = search needs
+returns-2 c = no-refusal (c .before .args .kind) (c .match .keys2)
 
 pub refusal-in-spec : {M : Type 1} → statement M
-refusal-in-spec =
-    tie.close
-    (tie.spec
-    enum-known-kind
-    refusal-number-requires
-    enum-told
-    enum-told-2
-    enum-told-3
-    enum-told-4
-    enum-told-5
-    enum-told-6
-    enum-told-7
-    enum-told-8
-    enum-told-9
-    enum-told-10
-    enum-told-11
-    enum-told-12
-    enum-told-13
-    returns
-    returns-2
-    returns-3
-    returns-4
-    returns-5
-    returns-6
-    returns-7
-    returns-8
-    returns-9
-    returns-10
-    returns-11
-    returns-12
-    returns-13
-    returns-14)
+refusal-in-spec = tie.close (tie.spec enum-known-kind refusal-number-requires returns returns-2)
