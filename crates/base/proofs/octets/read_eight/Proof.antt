@@ -10,14 +10,14 @@ use Rattle.base.proofs.octets.read_eight.Tie as tie
 
 returns : tie.Need-returns
 unfolding eightOf
-returns c = rw (ne-eqb _ _ (c .if1 .taken))
+returns c = rw (ne-eqb _ 8 (c .if1 .taken))
 
 join-requires : tie.Need-join-requires
 join-requires c κs = search needs
 
 returns-2 : tie.Need-returns-2
 unfolding eightOf
-returns-2 c = simp (eq-eqb _ _ (c .before .if1 .left)) (ap Number (c .join .ensures ∙ joined-number _ (c .before .if1 .left)))
+returns-2 c = simp (eq-eqb _ 8 (c .before .if1 .left)) (ap Number (c .join .ensures ∙ joined-number _ (c .before .if1 .left)))
 
 pub read-eight-spec : {M : Type 1} → statement M
 read-eight-spec = tie.close (tie.spec returns join-requires returns-2)

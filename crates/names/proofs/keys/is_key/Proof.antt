@@ -4,6 +4,7 @@ use native.Mathlib.Omega.{arith}
 use mathlib.Core.Path.{_≡_, refl, sym, _∙_}
 use lib.ListN.{length, drop}
 use borrow.Author.Needs.{needs}
+use denote.Ref.{now}
 use Rattle.base.proofs.ScanLaws.{run-turn, run-done}
 use Rattle.base.specs.Scan.{run}
 use Rattle.names.proofs.KeyLaws.{key-long, key-scanned}
@@ -19,7 +20,9 @@ abbrev μ-loop : tie.MeasureT-loop
 μ-loop s at₀ i₀ at i = length s - i
 
 returns : tie.Need-returns Inv-loop μ-loop
-returns c = sym (key-long _ (c .if1 .taken))
+returns c =
+    let s = now (c .before .before .args .s) in
+    sym (key-long s (omega (arith, c .if1 .taken)))
 
 loop-holds : tie.Need-loop-holds Inv-loop μ-loop
 loop-holds c = refl

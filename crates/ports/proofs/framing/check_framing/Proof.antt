@@ -41,10 +41,10 @@ returns : tie.Need-returns
 returns c = stop (whole (c .before .before .before .before)) (unsound _ (sym (c .enum-told .given .1) ∙ c .before .before .count-frames .ensures))
 
 returns-2 : tie.Need-returns-2
-returns-2 c = stop (sound-so (c .before .before)) (rw (count-is _ _ (counted-as (c .before .before)), ne-eqb _ _ (c .if1 .taken)))
+returns-2 c = stop (sound-so (c .before .before)) (rw (count-is _ _ (counted-as (c .before .before)), ne-eqb _ (c .before .before .before .before .before .before .args .count) (c .if1 .taken)))
 
 returns-3 : tie.Need-returns-3
-returns-3 c = done (pass (sound-so (c .before .before)) (rw (count-is _ _ (counted-as (c .before .before)), eq-eqb _ _ (c .if1 .left))))
+returns-3 c = done (pass (sound-so (c .before .before)) (rw (count-is _ _ (counted-as (c .before .before)), eq-eqb _ (c .before .before .before .before .before .before .args .count) (c .if1 .left))))
 
 pub check-framing-spec : {M : Type 1} → statement M
 check-framing-spec =

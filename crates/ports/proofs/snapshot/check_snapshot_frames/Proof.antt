@@ -1,6 +1,6 @@
 -- `ports::snapshot::check_snapshot_frames` meets its contract: the checks go by the first frame. Assumes nothing.
 use mathlib.Core.Bool.{Bool}
-use mathlib.Core.Path.{_≡_, _∙_}
+use mathlib.Core.Path.{_≡_, sym, ap, _∙_}
 use borrow.Author.Needs.{needs}
 use denote.Ref.{now}
 use Rattle.base.specs.Bytes.{same}
@@ -10,7 +10,7 @@ use Rattle.ports.proofs.snapshot.check_snapshot_frames.Statement.{state
 use Rattle.ports.proofs.snapshot.check_snapshot_frames.Tie as tie
 
 word : (c : tie.After-is-kthxbai) {t : Bool} → c .is-kthxbai .result ≡ t → same wordKthxbai (bodyAt 0 (now (c .before .before .before .before .args .msg))) ≡ t
-word c h = rw (← c .before .body .ensures, ← c .is-kthxbai .ensures) h
+word c h = sym (c .is-kthxbai .ensures ∙ ap (same wordKthxbai) (c .before .body .ensures)) ∙ h
 
 body-requires : tie.Need-body-requires
 body-requires c κs = search needs

@@ -40,7 +40,7 @@ number-told : (c : tie.After-n) → number (bodyAt 1 (now (c .before .before .be
 number-told c = number-is (c .before .before .before .body .ensures) _ (numbered-by c)
 
 past-sequence : (c : tie.Else1) → Left verdict (answer (c .before .before .before .before .before .before .before .before)) (drop 2 (table (c .before .before .before .before .before .before .before .before)))
-past-sequence c = pass (past-length (c .before .before .before)) (rw (number-told (c .before .before .before), eq-eqb _ _ (c .if1 .left)))
+past-sequence c = pass (past-length (c .before .before .before)) (rw (number-told (c .before .before .before), eq-eqb _ 0 (c .if1 .left)))
 
 past-uuid : (c : tie.Else2) → Left verdict (answer (c .before .before .before .before .before .before .before .before .before .before)) (drop 3 (table (c .before .before .before .before .before .before .before .before .before .before)))
 past-uuid c = pass (past-sequence (c .before .before)) (ap not (empty-pass (c .before .body2 .ensures) (c .if2 .left)))
@@ -64,7 +64,7 @@ returns : tie.Need-returns
 returns c = stop (whole (c .before .before .before .before .before)) (unnumbered-stop (c .before .before .before .body .ensures) (sym (c .enum-told .given .1) ∙ c .before .before .read-sequence .ensures))
 
 returns-2 : tie.Need-returns-2
-returns-2 c = stop (past-length (c .before .before .before)) (rw (number-told (c .before .before .before), ne-eqb _ _ (c .if1 .taken)))
+returns-2 c = stop (past-length (c .before .before .before)) (rw (number-told (c .before .before .before), ne-eqb _ 0 (c .if1 .taken)))
 
 body-requires-2 : tie.Need-body-requires-2
 body-requires-2 c κs = search needs

@@ -1,6 +1,6 @@
 -- `ports::subscriber::check_published_frames` meets its contract: the checks go by the first frame. Assumes nothing.
 use mathlib.Core.Bool.{Bool}
-use mathlib.Core.Path.{_≡_, _∙_}
+use mathlib.Core.Path.{_≡_, sym, ap, _∙_}
 use borrow.Author.Needs.{needs}
 use denote.Ref.{now}
 use Rattle.base.specs.Bytes.{same}
@@ -10,7 +10,7 @@ use Rattle.ports.proofs.subscriber.check_published_frames.Statement.{st
 use Rattle.ports.proofs.subscriber.check_published_frames.Tie as tie
 
 word : (c : tie.After-is-hugz) {t : Bool} → c .is-hugz .result ≡ t → same wordHugz (bodyAt 0 (now (c .before .before .before .args .msg))) ≡ t
-word c h = rw (← c .before .body .ensures, ← c .is-hugz .ensures) h
+word c h = sym (c .is-hugz .ensures ∙ ap (same wordHugz) (c .before .body .ensures)) ∙ h
 
 body-requires : tie.Need-body-requires
 body-requires c κs = search needs

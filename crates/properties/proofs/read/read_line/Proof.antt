@@ -85,17 +85,17 @@ enum-known-seconds c = search needs
 enum-told-4 : tie.Need-enum-told-4
 enum-told-4 c = search needs
 
-returns-5 : tie.Need-returns-5
-returns-5 c =
-    line-ttl _ (free (c .before .before .before .before .before .before .before .before .before .before .before .before .before)) _
-    (sign-at (c .before .before .before .before .before .before .before .before .before .before)) (c .before .before .before .before .before .before .before .before .if1 .left) (c .before .before .before .before .before .same-bytes .ensures) (c .before .before .before .before .if2 .left) Wrong
-    (sym (c .enum-told4 .given .1) ∙ c .before .before .read-decimal .ensures)
-
 returns-6 : tie.Need-returns-6
 returns-6 c =
     line-ttl _ (free (c .before .before .before .before .before .before .before .before .before .before .before .before .before .before)) _
     (sign-at (c .before .before .before .before .before .before .before .before .before .before .before)) (c .before .before .before .before .before .before .before .before .before .if1 .left) (c .before .before .before .before .before .before .same-bytes .ensures) (c .before .before .before .before .before .if2 .left) (Is (c .before .seconds .given .0 .0))
     (sym (c .before .seconds .given .1) ∙ c .before .before .before .read-decimal .ensures)
+
+returns-5 : tie.Need-returns-5
+returns-5 c =
+    line-ttl _ (free (c .before .before .before .before .before .before .before .before .before .before .before .before .before)) _
+    (sign-at (c .before .before .before .before .before .before .before .before .before .before)) (c .before .before .before .before .before .before .before .before .if1 .left) (c .before .before .before .before .before .same-bytes .ensures) (c .before .before .before .before .if2 .left) Wrong
+    (sym (c .enum-told4 .given .1) ∙ c .before .before .read-decimal .ensures)
 
 pub read-line-spec : {M : Type 1} → statement M
 read-line-spec =

@@ -30,7 +30,9 @@ left-shorter : (c : tie.After-end Inv-loop μ-loop) → length (take (length (no
 left-shorter c = omega (arith, inside c, tail-length (now (c .before .before .before .before .loop .rest)) (c .end .given .0 .0 + 1))
 
 returns : tie.Need-returns Inv-loop μ-loop
-returns c = sym (too-long _ (c .if1 .taken))
+returns c =
+    let s = now (c .before .before .args .s) in
+    sym (too-long s (omega (arith, c .if1 .taken)))
 
 loop-holds : tie.Need-loop-holds Inv-loop μ-loop
 loop-holds c = (lines-begin _ (c .if1 .left), omega arith)
