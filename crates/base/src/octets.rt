@@ -10,7 +10,8 @@ pub enum Eight {
     Other,
 }
 
-fn wide(x: u8) -> u64
+// An octet as a number of a machine word.
+pub fn wide(x: u8) -> u64
     ensures { λ r. ⌜ (r ≡ x) × (r < 256) ⌝ }
 {
     x as u64

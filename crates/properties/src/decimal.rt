@@ -1,18 +1,12 @@
 // Decimal numbers of a bounded length and size.
+use base::octets;
 ghost use mathlib.Core.Path.{_≡_};
-ghost use Prim.Native.Nat.{_<_};
 ghost use Rattle.properties.specs.Decimals.{decimalOf};
 
 // What some bytes say as a decimal number.
 pub enum Decimal {
     Is(u64),
     Wrong,
-}
-
-fn wide(x: u8) -> u64
-    ensures { λ r. ⌜ (r ≡ x) × (r < 256) ⌝ }
-{
-    x as u64
 }
 
 // The decimal number that some bytes are: one digit or more, at most so many, and the number at most so large.
@@ -31,7 +25,7 @@ pub fn read_decimal(s: &[u8], digits: usize, most: u32) -> Decimal
         let b = s[i];
         match b {
             48..=57 => {
-                n = n * 10 + wide(b - 48);
+                n = n * 10 + octets::wide(b - 48);
             }
             _ => {
                 return Decimal::Wrong;

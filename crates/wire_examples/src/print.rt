@@ -1,6 +1,7 @@
 // Lines of text and bytes on standard output.
 use answers::refusal;
 use answers::refusal::Verdict;
+use base::octets;
 
 const STDOUT: i32 = 1;
 
@@ -12,13 +13,9 @@ pub(crate) fn number(n: u64) {
     io::print_decimal(STDOUT, n);
 }
 
-fn wide(b: u8) -> u64 {
-    b as u64
-}
-
 fn octet(b: u8) {
     text(b" ");
-    io::print_hex(STDOUT, wide(b), 2);
+    io::print_hex(STDOUT, octets::wide(b), 2);
 }
 
 fn each(b: &[u8]) {
