@@ -4,7 +4,7 @@ ghost use Rattle.answers.specs.Refusals.{refusalNumber, verdictNumber};
 
 // Why a call is refused.
 pub enum Refusal {
-    // No bytes, a bad flag octet, a frame past the end, or bytes behind the last frame.
+    // Bytes that are not a run of whole frames up to the last.
     Framing,
     // Another count of frames than the port takes.
     FrameCount,

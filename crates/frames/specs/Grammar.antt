@@ -12,7 +12,7 @@ pub data IsFrame (more : Bool) (body : Bytes) : Bytes → Type 0 where
   short : length body ≤ 255 → IsFrame more body (flagOf more false ∷ length body ∷ body)
   long : length body < 2 ^ 64 → IsFrame more body (flagOf more true ∷ octets 8 (length body) ++ body)
 
--- one or more frames; the last one lacks the flag 1 and ends the message
+-- frames that each promise another, and behind them a last one that promises none
 pub data IsMessage : List Bytes → Bytes → Type 0 where
   final : (body s : Bytes) → IsFrame false body s → IsMessage (body ∷ []) s
   further : (body : Bytes) (bodies : List Bytes) (s t : Bytes) → IsFrame true body s → IsMessage bodies t → IsMessage (body ∷ bodies) (s ++ t)

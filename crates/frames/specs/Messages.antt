@@ -1,4 +1,4 @@
--- A message is one or more frames, of which the last one lacks the flag 1 and ends the message. It is the list of its frames' bodies.
+-- A message as the list of its frames' bodies. Each frame but the last promises another, and nothing stands behind the last.
 use Prim.Native.Nat.{ℕ, zero, suc, _+_}
 use mathlib.Core.Bool.{Bool, true, false, cond}
 use mathlib.Core.List.{List, [], _∷_, _++_}

@@ -1,5 +1,5 @@
--- A frame: the flag octet, the size, the body. The flag octet is one of 0, 1, 2 and 3: 1 says that another frame follows, 2 that
--- the size is eight octets in network order instead of one.
+-- A frame: the flag octet, the size, the body. Two bits of the flag octet may be set and no others: the lower one promises another frame, the
+-- higher one says that the size takes eight octets and not one.
 use Prim.Native.Nat.{ℕ, zero, suc}
 use mathlib.Core.Bool.{Bool, true, false, cond}
 use mathlib.Core.List.{[], _∷_}

@@ -1,4 +1,4 @@
-// Writing frames: one size octet up to 255 bytes and eight above.
+// Writing frames in the shortest size: one octet for a body of up to 255 bytes, and eight for a longer one.
 use base::octets;
 use base::output;
 ghost use mathlib.Core.Path.{_≡_};

@@ -10,7 +10,7 @@ abbrev pub Plain : Bytes → Type 0
 Plain [] = Unit {0}
 Plain (b ∷ s) = (b ≡ 47 → ⊥) × (b ≡ 0 → ⊥) × Plain s
 
--- one or more of (slash, then one or more bytes that are neither slash nor zero)
+-- a slash and a name, once or more often; a name is one byte or more, none of them slash or zero
 pub data Key : Bytes → Type 0 where
   one : (name : Bytes) → 0 < length name → Plain name → Key (47 ∷ name)
   more : (name rest : Bytes) → 0 < length name → Plain name → Key rest → Key (47 ∷ name ++ rest)

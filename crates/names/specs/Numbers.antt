@@ -1,4 +1,4 @@
--- A sequence is eight octets in network order; kept numbers are 0 to 2^63 - 1. A tick is in milliseconds, 0 to 2^62.
+-- Sequence numbers, which are written as eight octets and kept up to 2^63 - 1, and ticks, which are milliseconds up to 2^62.
 use Prim.Native.Nat.{ℕ}
 use mathlib.Core.Bool.{Bool, cond}
 use lib.Dec.{leb, eqb}

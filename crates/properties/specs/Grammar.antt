@@ -16,7 +16,7 @@ abbrev pub Unsigned : Bytes → Type 0
 Unsigned [] = Unit {0}
 Unsigned (b ∷ s) = (b ≡ 61 → ⊥) × (b ≡ 10 → ⊥) × (b ≡ 0 → ⊥) × Unsigned s
 
--- zero or more of name=value newline; a name has one or more bytes
+-- any number of lines: a name that is not empty, an equals sign, a value, a newline
 pub data Text : List Property → Bytes → Type 0 where
   empty : Text [] []
   entry : (p : Property) (ps : List Property) (rest : Bytes) → 0 < length (p .name) → Unsigned (p .name) → Unbroken (p .value) → Text ps rest

@@ -2,8 +2,7 @@
 use mathlib.Core.Bool.{cond}
 use mathlib.Core.Option.{Option, none, some}
 use Rattle.base.specs.Bytes.{Bytes, ascii, same}
-use Rattle.properties.specs.Decimals.{decimalOf}
-use Rattle.properties.specs.Properties.{Property, propertyIn}
+use Rattle.properties.specs.Properties.{Property, propertyIn, secondsIn}
 use Rattle.properties.specs.declared.decimal.Decimal.the-variants.{Is, Wrong}
 use Rattle.properties.specs.declared.decimal.Decimal.{Decimal}
 use Rattle.properties.specs.declared.read.Lifetime.the-variants.{Unlimited, Seconds}
@@ -20,7 +19,7 @@ lineWith Wrong = Bad
 -- what a property says of the lifetime
 abbrev pub lineFor : Option Property → Line
 lineFor none = Bad
-lineFor (some p) = cond (same (ascii "ttl") (p .name)) (lineWith (decimalOf 5 86400 (p .value))) Other
+lineFor (some p) = cond (same (ascii "ttl") (p .name)) (lineWith (secondsIn (p .value))) Other
 
 abbrev pub lineOf : Bytes → Line
 lineOf line = lineFor (propertyIn line)

@@ -1,5 +1,5 @@
--- Properties: 0 to 128 bytes, zero or more of name=value newline; a name has 1 or more bytes, none of them equals sign, newline or zero; a
--- value has no newline or zero. At most one is named ttl: 1 to 5 decimal digits, 0 to 86,400 seconds.
+-- Properties are lines: each a name, an equals sign and a value, and ended by a newline. They take 128 bytes at most. One of them may be named
+-- ttl, and says how many seconds a row lives, in up to five digits.
 use mathlib.Core.Bool.{Bool, true, false, cond, not, _&&_}
 use mathlib.Core.List.{List, [], _∷_}
 use mathlib.Core.Option.{Option, none, some, Option·map}
@@ -56,6 +56,10 @@ unfoldable pub ttls : List Property → List Bytes
 ttls [] = []
 ttls (p ∷ ps) = cond (same (ascii "ttl") (p .name)) (p .value ∷ ttls ps) (ttls ps)
 
+-- the seconds of a ttl
+abbrev pub secondsIn : Bytes → Decimal
+secondsIn value = decimalOf 5 86400 value
+
 abbrev pub lasting : Decimal → Properties
 lasting (Is n) = Good (Seconds n)
 lasting Wrong = Malformed
@@ -63,7 +67,7 @@ lasting Wrong = Malformed
 -- no ttl, or one
 abbrev pub lifetimeOf : List Bytes → Properties
 lifetimeOf [] = Good Unlimited
-lifetimeOf (value ∷ []) = lasting (decimalOf 5 86400 value)
+lifetimeOf (value ∷ []) = lasting (secondsIn value)
 lifetimeOf (_ ∷ _ ∷ _) = Malformed
 
 abbrev pub judged : Option (List Property) → Properties
