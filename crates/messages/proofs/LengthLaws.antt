@@ -43,12 +43,13 @@ module _ (n : ℕ) (key : Bytes) (k : length key ≤ 96) where
       omega
       (arith, length-append (identityFrame identity) (bytesOf (kvsync n key value)), frame-length true identity, short-frame (length identity) 255 i (omega arith), bytes-length (kvsync n key value) (length-octets 8 n), short-frame (length key) 96 k (omega arith), value-frame (length value) v)
 
--- the end of a snapshot behind its identity, for a subtree that a key can be under: at most 377 bytes
-pub kthxbai-bound : (n : ℕ) (identity subtree : Bytes) → length identity ≤ 255 → length subtree ≤ 95
-    → length (withIdentity identity (bytesOf (kthxbai n subtree))) ≤ 377
+-- the end of a snapshot behind its identity: at most 282 bytes and the subtree's. That is 378 for the longest subtree, and 377 for the
+-- longest that a key can be under
+pub kthxbai-bound : (n : ℕ) (identity subtree : Bytes) → length identity ≤ 255 → length subtree ≤ 96
+    → length (withIdentity identity (bytesOf (kthxbai n subtree))) ≤ length subtree + 282
 kthxbai-bound n identity subtree i s =
     omega
-    (arith, length-append (identityFrame identity) (bytesOf (kthxbai n subtree)), frame-length true identity, short-frame (length identity) 255 i (omega arith), bytes-length (kthxbai n subtree) (length-octets 8 n), short-frame (length subtree) 95 s (omega arith))
+    (arith, length-append (identityFrame identity) (bytesOf (kthxbai n subtree)), frame-length true identity, short-frame (length identity) 255 i (omega arith), bytes-length (kthxbai n subtree) (length-octets 8 n), short-frame (length subtree) (length subtree) (omega arith) (omega arith))
 
 -- HUGZ is these 22 bytes
 pub hugz-bytes : bytesOf hugz
