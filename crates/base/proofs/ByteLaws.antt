@@ -1,4 +1,4 @@
--- Laws of prefixes and of equal bytes. Assumes nothing.
+-- Laws of no bytes, of bytes without one, of prefixes and of equal bytes. Assumes nothing.
 use Prim.Native.Nat.{ℕ, suc, _+_, _≤_, _<_}
 use native.Mathlib.Numerals.{add-one}
 use native.Mathlib.Omega.{arith}
@@ -8,8 +8,8 @@ use mathlib.Core.Path.{_≡_, refl, sym, ap, ap₂, _∙_}
 use lib.Dec.{eqb}
 use lib.ListN.{length, getD, drop, drop-of-length-le}
 use lib.Seq.{drop-cons}
-use borrow.Author.Tests.{eqb-true, eq-eqb, ne-eqb}
-use Rattle.base.specs.Bytes.{Bytes, prefix, same}
+use borrow.Author.Tests.{eqb-true, eqb-false, eq-eqb, ne-eqb}
+use Rattle.base.specs.Bytes.{Bytes, isNil, prefix, same, holds, Lacks}
 
 -- both halves of a conjunction that holds
 pub and-left : (a b : Bool) → (a && b) ≡ true → a ≡ true
@@ -30,6 +30,30 @@ pub or-right : (a b : Bool) → (a || b) ≡ false → b ≡ false
 or-right true true e = e
 or-right true false e = refl
 or-right false b e = e
+
+-- ---- no bytes
+pub is-empty : (s : Bytes) → length s ≡ 0 → isNil s ≡ true
+is-empty [] h = refl
+is-empty (b ∷ s) h = absurd (omega arith)
+
+pub not-empty : (s : Bytes) → (length s ≡ 0 → ⊥) → isNil s ≡ false
+not-empty [] h = absurd (h refl)
+not-empty (b ∷ s) h = refl
+
+pub some-bytes : (s : Bytes) → isNil s ≡ false → 0 < length s
+some-bytes [] h = absurd (let z : _≡_ {A = ℕ} 0 1 = cc in omega arith)
+some-bytes (b ∷ s) h = omega arith
+
+-- ---- bytes without one
+pub lacks-tested : (b : ℕ) (s : Bytes) → Lacks b s → holds b s ≡ false
+unfolding holds
+lacks-tested b [] h = refl
+lacks-tested b (x ∷ s) h = rw (ne-eqb x b (h .0)) (lacks-tested b s (h .1))
+
+pub tested-lacks : (b : ℕ) (s : Bytes) → holds b s ≡ false → Lacks b s
+unfolding holds
+tested-lacks b [] h = tt
+tested-lacks b (x ∷ s) h = (eqb-false x b (or-left (eqb x b) (holds b s) h), tested-lacks b s (or-right (eqb x b) (holds b s) h))
 
 -- ---- prefixes
 pub prefix-longer : (p s : Bytes) → length s < length p → prefix p s ≡ false

@@ -8,36 +8,24 @@ use mathlib.Core.Path.{_≡_, refl, sym, ap, _∙_, subst}
 use lib.Dec.{leb, eqb}
 use lib.ListN.{length, getD, take, length-append, drop-of-length-le}
 use lib.Seq.{split-at, take-append-seam, getD-append-seam}
-use borrow.Author.Tests.{leb-true, eqb-true, eqb-false, not-true, le-leb, ne-eqb}
-use Rattle.base.proofs.ByteLaws.{and-left, and-right, or-left, or-right}
+use borrow.Author.Tests.{leb-true, eqb-true, not-true, le-leb}
+use Rattle.base.proofs.ByteLaws.{and-left, and-right, some-bytes, lacks-tested, tested-lacks}
 use Rattle.base.proofs.CutLaws.{pieces-some, pieces-free, pieces-cut, glue, glue-pieces, without, pieces-without}
 use Rattle.base.specs.Bytes.{Bytes, isNil, holds, every}
 use Rattle.base.specs.Cuts.{pieces}
-use Rattle.names.proofs.KeyLaws.{subtree-empty, subtree-closed}
+use Rattle.names.proofs.KeyLaws.{first-slash, subtree-empty, subtree-closed}
 use Rattle.names.specs.Grammar.Key.{one, more}
 use Rattle.names.specs.Grammar.Subtree.{whole, below}
 use Rattle.names.specs.Grammar.{Plain, Key, Subtree}
 use Rattle.names.specs.Keys.{isName, slashed, isKey, isSubtree}
 
--- ---- a plain name, by its tests and by the grammar
-plain-tests : (s : Bytes) → Plain s → (holds 47 s ≡ false) × (holds 0 s ≡ false)
-unfolding holds
-plain-tests [] h = (refl, refl)
-plain-tests (b ∷ s) h = let r = plain-tests s (h .2) in (rw (ne-eqb b 47 (h .0)) (r .0), rw (ne-eqb b 0 (h .1)) (r .1))
-
-tests-plain : (s : Bytes) → holds 47 s ≡ false → holds 0 s ≡ false → Plain s
-unfolding holds
-tests-plain [] h k = tt
-tests-plain (b ∷ s) h k =
-    (eqb-false b 47 (or-left (eqb b 47) (holds 47 s) h), eqb-false b 0 (or-left (eqb b 0) (holds 0 s) k), tests-plain s (or-right (eqb b 47) (holds 47 s) h) (or-right (eqb b 0) (holds 0 s) k))
-
+-- ---- a name, by its test and by the grammar
 is-name : (s : Bytes) → 0 < length s → Plain s → isName s ≡ true
 is-name [] l h = absurd (omega arith)
-is-name (b ∷ s) l h = rw (plain-tests (b ∷ s) h .1)
+is-name (b ∷ s) l h = rw (lacks-tested 0 (b ∷ s) (h .1))
 
 name-some : (s : Bytes) → isName s ≡ true → 0 < length s
-name-some [] h = absurd (let z : _≡_ {A = ℕ} 0 1 = cc in omega arith)
-name-some (b ∷ s) h = omega arith
+name-some s h = some-bytes s (not-true (isNil s) (and-left (not (isNil s)) (not (holds 0 s)) h))
 
 name-free : (s : Bytes) → isName s ≡ true → holds 0 s ≡ false
 name-free s h = not-true (holds 0 s) (and-right (not (isNil s)) (not (holds 0 s)) h)
@@ -47,17 +35,13 @@ key-slash : (s : Bytes) → Key s → (r : Bytes) × (s ≡ 47 ∷ r)
 key-slash s (one name l h) = (name, refl)
 key-slash s (more name rest l h k) = (name ++ rest, refl)
 
-slashed-names : (ps : List Bytes) → isNil ps ≡ false → slashed ([] ∷ ps) ≡ every isName ps
-slashed-names [] h = cc
-slashed-names (p ∷ ps) h = refl
-
 key-slashed : (s : Bytes) → Key s → slashed (pieces 47 s) ≡ true
 unfolding pieces every
-key-slashed s (one name l h) = rw (pieces-free 47 name (plain-tests name h .0), is-name name l h)
+key-slashed s (one name l h) = rw (pieces-free 47 name (lacks-tested 47 name (h .0)), is-name name l h)
 key-slashed s (more name rest l h k) =
     let r = key-slash rest k in
-    let ih : every isName (pieces 47 (r .0)) ≡ true = sym (slashed-names (pieces 47 (r .0)) (pieces-some 47 (r .0))) ∙ rw (r .1) at (key-slashed rest k) in
-    rw (r .1, pieces-cut 47 name (r .0) (plain-tests name h .0), is-name name l h) ih
+    let ih : every isName (pieces 47 (r .0)) ≡ true = sym (first-slash (pieces 47 (r .0)) (pieces-some 47 (r .0))) ∙ rw (r .1) at (key-slashed rest k) in
+    rw (r .1, pieces-cut 47 name (r .0) (lacks-tested 47 name (h .0)), is-name name l h) ih
 
 pub key-decided : (s : Bytes) → length s ≤ 96 → Key s → isKey s ≡ true
 unfolding isKey
@@ -65,7 +49,7 @@ key-decided s l k = rw (le-leb (length s) 96 l) (key-slashed s k)
 
 -- ---- from the test to the grammar
 name-plain : (p : Bytes) → isName p ≡ true → without 47 p ≡ true → Plain p
-name-plain p h k = tests-plain p (not-true (holds 47 p) k) (name-free p h)
+name-plain p h k = (tested-lacks 47 p (not-true (holds 47 p) k), tested-lacks 0 p (name-free p h))
 
 names-key : (p : Bytes) (ps : List Bytes) → every isName (p ∷ ps) ≡ true → every (without 47) (p ∷ ps) ≡ true → Key (47 ∷ glue 47 (p ∷ ps))
 unfolding every

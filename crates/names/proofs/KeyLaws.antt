@@ -1,12 +1,12 @@
 -- The scan of a key finds the keys and no others. Assumes nothing.
 use Prim.Native.Nat.{ℕ, _-_, _≤_, _<_}
-use native.Mathlib.Omega.{arith}
-use mathlib.Core.Bool.{Bool, true, false, cond, not, _&&_, _||_}
+use mathlib.Core.Bool.{Bool, true, false, cond, not, _&&_}
 use mathlib.Core.List.{List, [], _∷_}
 use mathlib.Core.Path.{_≡_, refl, sym, ap, _∙_}
-use lib.Dec.{leb, eqb}
+use lib.Dec.{eqb}
 use lib.ListN.{length, getD, take}
 use borrow.Author.Tests.{eqb-true, le-leb, lt-leb, eq-eqb, ne-eqb}
+use Rattle.base.proofs.ByteLaws.{is-empty, not-empty}
 use Rattle.base.proofs.CutLaws.{pieces-some}
 use Rattle.base.specs.Bytes.{Bytes, isNil, holds, every}
 use Rattle.base.specs.Cuts.{onFirst, pieces}
@@ -91,7 +91,7 @@ mutual
       go (plain e f) h k = rw (e, f) (h ∙ sym (next-byte b f (pieces 47 s)))
 
 -- ---- the whole scan
-first-slash : (ps : List Bytes) → isNil ps ≡ false → slashed ([] ∷ ps) ≡ every isName ps
+pub first-slash : (ps : List Bytes) → isNil ps ≡ false → slashed ([] ∷ ps) ≡ every isName ps
 first-slash [] h = cc
 first-slash (p ∷ ps) h = refl
 
@@ -121,29 +121,18 @@ module _ (s : Bytes) where
 
   pub subtree-empty : length s ≡ 0 → isSubtree s ≡ true
   unfolding isSubtree
-  subtree-empty h = go s h
-    where
-      go : (t : Bytes) → length t ≡ 0 → (isNil t || (leb (length t) 96 && (eqb (getD t (length t - 1) 0) 47 && isKey (take (length t - 1) t)))) ≡ true
-      go [] h = refl
-      go (x ∷ t) h = absurd (omega arith)
+  subtree-empty h = rw (is-empty s h)
 
   module _ (h : length s ≡ 0 → ⊥) where
-    nonempty : isNil s ≡ false
-    nonempty = go s h
-      where
-        go : (t : Bytes) → (length t ≡ 0 → ⊥) → isNil t ≡ false
-        go [] h = absurd (h refl)
-        go (x ∷ t) h = refl
-
     pub subtree-long : 96 < length s → isSubtree s ≡ false
     unfolding isSubtree
-    subtree-long k = rw (nonempty, lt-leb (length s) 96 k)
+    subtree-long k = rw (not-empty s h, lt-leb (length s) 96 k)
 
     module _ (k : length s ≤ 96) where
       pub subtree-open : (getD s (length s - 1) 0 ≡ 47 → ⊥) → isSubtree s ≡ false
       unfolding isSubtree
-      subtree-open e = rw (nonempty, le-leb (length s) 96 k, ne-eqb (getD s (length s - 1) 0) 47 e)
+      subtree-open e = rw (not-empty s h, le-leb (length s) 96 k, ne-eqb (getD s (length s - 1) 0) 47 e)
 
       pub subtree-closed : getD s (length s - 1) 0 ≡ 47 → isSubtree s ≡ isKey (take (length s - 1) s)
       unfolding isSubtree
-      subtree-closed e = rw (nonempty, le-leb (length s) 96 k, eq-eqb (getD s (length s - 1) 0) 47 e)
+      subtree-closed e = rw (not-empty s h, le-leb (length s) 96 k, eq-eqb (getD s (length s - 1) 0) 47 e)

@@ -2,7 +2,7 @@
 use Prim.Native.Nat.{ℕ, _<_}
 use native.Mathlib.Omega.{arith}
 use mathlib.Core.Bool.{Bool, true, false, cond, not}
-use mathlib.Core.List.{List, [], _∷_, _++_}
+use mathlib.Core.List.{List, [], _++_}
 use mathlib.Core.Option.{Option, none, some, Option·getD}
 use mathlib.Core.Path.{_≡_, refl}
 use lib.Dec.{eqb}
@@ -12,6 +12,7 @@ use Rattle.answers.proofs.VerdictLaws.{accepted, past-accepted}
 use Rattle.answers.specs.Refusals.{verdict}
 use Rattle.answers.specs.declared.refusal.Refusal.{Refusal}
 use Rattle.answers.specs.declared.refusal.Verdict.the-variants.{Accept}
+use Rattle.base.proofs.ByteLaws.{is-empty, not-empty}
 use Rattle.base.proofs.CheckLaws.{passed}
 use Rattle.base.specs.Bytes.{Bytes, isNil}
 use Rattle.base.specs.Checks.{Check, firstOf}
@@ -89,18 +90,10 @@ module _ {x y : Bytes} (e : x ≡ y) where
   told test g h = rw (← e, ← g) h
 
   pub empty-pass : length x ≡ 0 → isNil y ≡ true
-  empty-pass h = rw (← e) (go x h)
-    where
-      go : (s : Bytes) → length s ≡ 0 → isNil s ≡ true
-      go [] h = refl
-      go (b ∷ s) h = absurd (omega arith)
+  empty-pass h = rw (← e) (is-empty x h)
 
   pub empty-stop : (length x ≡ 0 → ⊥) → isNil y ≡ false
-  empty-stop h = rw (← e) (go x h)
-    where
-      go : (s : Bytes) → (length s ≡ 0 → ⊥) → isNil s ≡ false
-      go [] h = absurd (h refl)
-      go (b ∷ s) h = refl
+  empty-stop h = rw (← e) (not-empty x h)
 
   pub unnumbered-stop : Unnumbered ≡ numberedOf x → not (isSequence y) ≡ true
   unnumbered-stop h = rw (← e) (go (isSequence x) h)

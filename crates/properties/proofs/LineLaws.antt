@@ -1,12 +1,13 @@
 -- Laws of a line of properties, as the code reads it. Assumes nothing.
-use Prim.Native.Nat.{ℕ, zero, suc, _+_, _-_, _<_}
+use Prim.Native.Nat.{ℕ, _+_, _-_}
 use native.Mathlib.Omega.{arith}
 use mathlib.Core.Bool.{Bool, true, false, not}
-use mathlib.Core.List.{[], _∷_}
 use mathlib.Core.Option.{some}
-use mathlib.Core.Path.{_≡_, refl}
+use mathlib.Core.Path.{_≡_}
 use lib.ListN.{length, take, drop}
+use lib.Seq.{length-take-le}
 use borrow.Author.Tests.{not-true, not-false}
+use Rattle.base.proofs.ByteLaws.{not-empty}
 use Rattle.base.proofs.CutLaws.{tail-part, cut-at, uncut}
 use Rattle.base.specs.Bytes.{Bytes, ascii, isNil, same}
 use Rattle.base.specs.Cuts.{foundOf, before}
@@ -34,12 +35,7 @@ module _ (line : Bytes) where
 
       module _ (h : i ≡ 0 → ⊥) where
         named : isNil (before 61 line) ≡ false
-        named = rw (cut-at 61 line i e .front) (go i line h (cut-at 61 line i e .below))
-          where
-            go : (i : ℕ) (s : Bytes) → (i ≡ 0 → ⊥) → i < length s → isNil (take i s) ≡ false
-            go zero s h l = absurd (h refl)
-            go (suc i) [] h l = absurd (omega arith)
-            go (suc i) (x ∷ s) h l = refl
+        named = rw (cut-at 61 line i e .front) (not-empty (take i line) (λ z. h (omega (arith, length-take-le i line (omega (arith, cut-at 61 line i e .below))))))
 
         property-is : propertyIn line ≡ some (record { name = take i line; value = take (length line - (i + 1)) (drop (i + 1) line) })
         unfolding propertyIn

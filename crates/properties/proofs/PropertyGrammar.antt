@@ -8,8 +8,8 @@ use mathlib.Core.Option.{Option, none, some, Option·map}
 use mathlib.Core.Path.{_≡_, refl, sym, ap, _∙_, subst}
 use lib.Dec.{eqb}
 use lib.ListN.{length}
-use borrow.Author.Tests.{eqb-false, not-true, ne-eqb}
-use Rattle.base.proofs.ByteLaws.{and-left, and-right, or-left, or-right}
+use borrow.Author.Tests.{not-true}
+use Rattle.base.proofs.ByteLaws.{and-left, and-right, or-left, or-right, not-empty, some-bytes, lacks-tested, tested-lacks}
 use Rattle.base.proofs.CutLaws.{holds-append, before-behind, before-free, before-first, behind-first, pieces-some, pieces-cut, glue, glue-pieces, without, pieces-without}
 use Rattle.base.specs.Bytes.{Bytes, isNil, holds, every}
 use Rattle.base.specs.Cuts.{before, behind, pieces}
@@ -18,31 +18,6 @@ use Rattle.properties.specs.Grammar.Text.{empty, entry}
 use Rattle.properties.specs.Grammar.{Unbroken, Unsigned, Text}
 use Rattle.properties.specs.Properties.{Property, ended, propertyIn, together, eachOf, propertiesIn}
 
--- ---- names and values, by their tests and by the grammar
-name-tests : (s : Bytes) → Unsigned s → (holds 61 s ≡ false) × (holds 10 s ≡ false) × (holds 0 s ≡ false)
-unfolding holds
-name-tests [] h = (refl, refl, refl)
-name-tests (b ∷ s) h =
-    let r = name-tests s (h .3) in
-    (rw (ne-eqb b 61 (h .0)) (r .0), rw (ne-eqb b 10 (h .1)) (r .1), rw (ne-eqb b 0 (h .2)) (r .2))
-
-tests-name : (s : Bytes) → holds 61 s ≡ false → holds 10 s ≡ false → holds 0 s ≡ false → Unsigned s
-unfolding holds
-tests-name [] h k l = tt
-tests-name (b ∷ s) h k l =
-    (eqb-false b 61 (or-left (eqb b 61) (holds 61 s) h), eqb-false b 10 (or-left (eqb b 10) (holds 10 s) k), eqb-false b 0 (or-left (eqb b 0) (holds 0 s) l), tests-name s (or-right (eqb b 61) (holds 61 s) h) (or-right (eqb b 10) (holds 10 s) k) (or-right (eqb b 0) (holds 0 s) l))
-
-value-tests : (s : Bytes) → Unbroken s → (holds 10 s ≡ false) × (holds 0 s ≡ false)
-unfolding holds
-value-tests [] h = (refl, refl)
-value-tests (b ∷ s) h = let r = value-tests s (h .2) in (rw (ne-eqb b 10 (h .0)) (r .0), rw (ne-eqb b 0 (h .1)) (r .1))
-
-tests-value : (s : Bytes) → holds 10 s ≡ false → holds 0 s ≡ false → Unbroken s
-unfolding holds
-tests-value [] k l = tt
-tests-value (b ∷ s) k l =
-    (eqb-false b 10 (or-left (eqb b 10) (holds 10 s) k), eqb-false b 0 (or-left (eqb b 0) (holds 0 s) l), tests-value s (or-right (eqb b 10) (holds 10 s) k) (or-right (eqb b 0) (holds 0 s) l))
-
 -- ---- one line
 abbrev lineFrom : Property → Bytes
 lineFrom p = p .name ++ (61 ∷ p .value)
@@ -50,31 +25,23 @@ lineFrom p = p .name ++ (61 ∷ p .value)
 module _ (p : Property) (l : 0 < length (p .name)) (n : Unsigned (p .name)) (v : Unbroken (p .value)) where
   line-free : holds 10 (lineFrom p) ≡ false
   unfolding holds
-  line-free = rw (holds-append 10 (p .name) (61 ∷ p .value), name-tests (p .name) n .1, value-tests (p .value) v .0)
+  line-free = rw (holds-append 10 (p .name) (61 ∷ p .value), lacks-tested 10 (p .name) (n .1), lacks-tested 10 (p .value) (v .0))
 
   line-nonzero : holds 0 (lineFrom p) ≡ false
   unfolding holds
-  line-nonzero = rw (holds-append 0 (p .name) (61 ∷ p .value), name-tests (p .name) n .2, value-tests (p .value) v .1)
+  line-nonzero = rw (holds-append 0 (p .name) (61 ∷ p .value), lacks-tested 0 (p .name) (n .2), lacks-tested 0 (p .value) (v .1))
 
   line-signed : holds 61 (lineFrom p) ≡ true
   unfolding holds
-  line-signed = rw (holds-append 61 (p .name) (61 ∷ p .value), name-tests (p .name) n .0)
+  line-signed = rw (holds-append 61 (p .name) (61 ∷ p .value), lacks-tested 61 (p .name) (n .0))
 
   named : isNil (p .name) ≡ false
-  named = go (p .name) l
-    where
-      go : (s : Bytes) → 0 < length s → isNil s ≡ false
-      go [] l = absurd (omega arith)
-      go (b ∷ s) l = refl
+  named = not-empty (p .name) (λ e. omega arith)
 
   property-read : propertyIn (lineFrom p) ≡ some p
   unfolding propertyIn
   property-read =
-      rw (line-nonzero, line-signed, before-first 61 (p .value) (p .name) (name-tests (p .name) n .0), behind-first 61 (p .value) (p .name) (name-tests (p .name) n .0), named)
-
-some-bytes : (s : Bytes) → isNil s ≡ false → 0 < length s
-some-bytes [] h = absurd (let z : _≡_ {A = ℕ} 0 1 = cc in omega arith)
-some-bytes (b ∷ s) h = omega arith
+      rw (line-nonzero, line-signed, before-first 61 (p .value) (p .name) (lacks-tested 61 (p .name) (n .0)), behind-first 61 (p .value) (p .name) (lacks-tested 61 (p .name) (n .0)), named)
 
 -- a value has what the bytes behind an equals sign have
 behind-sign : (b : ℕ) (s : Bytes) → eqb 61 b ≡ false → holds b (61 ∷ s) ≡ false → holds b s ≡ false
@@ -109,8 +76,8 @@ line-known line p free e = go (property-test line) refl e
           is = split;
           some-name =
               some-bytes (before 61 line) (not-true (isNil (before 61 line)) (and-right (holds 61 line) (not (isNil (before 61 line))) (and-right (not (holds 0 line)) (holds 61 line && not (isNil (before 61 line))) t)));
-          unsigned = tests-name (before 61 line) (before-free 61 line) (or-left (holds 10 (before 61 line)) (holds 10 (61 ∷ behind 61 line)) lines) (or-left (holds 0 (before 61 line)) (holds 0 (61 ∷ behind 61 line)) zeros);
-          unbroken = tests-value (behind 61 line) (behind-sign 10 (behind 61 line) refl (or-right (holds 10 (before 61 line)) (holds 10 (61 ∷ behind 61 line)) lines)) (behind-sign 0 (behind 61 line) refl (or-right (holds 0 (before 61 line)) (holds 0 (61 ∷ behind 61 line)) zeros));
+          unsigned = (tested-lacks 61 (before 61 line) (before-free 61 line), tested-lacks 10 (before 61 line) (or-left (holds 10 (before 61 line)) (holds 10 (61 ∷ behind 61 line)) lines), tested-lacks 0 (before 61 line) (or-left (holds 0 (before 61 line)) (holds 0 (61 ∷ behind 61 line)) zeros));
+          unbroken = (tested-lacks 10 (behind 61 line) (behind-sign 10 (behind 61 line) refl (or-right (holds 10 (before 61 line)) (holds 10 (61 ∷ behind 61 line)) lines)), tested-lacks 0 (behind 61 line) (behind-sign 0 (behind 61 line) refl (or-right (holds 0 (before 61 line)) (holds 0 (61 ∷ behind 61 line)) zeros)));
         }
 
     go : (t : Bool) → property-test line ≡ t → cond t (some x) none ≡ some p → Line line p
