@@ -1,4 +1,5 @@
 -- `frames::step::long_size` meets its contract: the eight octets are a number, and nothing else can be read there. Assumes nothing.
+use native.Mathlib.Omega.{arith}
 use mathlib.Core.Path.{sym, _∙_}
 use lib.Seq.{length-take-le}
 use borrow.Author.Needs.{needs}
@@ -11,7 +12,7 @@ returns : tie.Need-returns
 returns c = sym (long-none _ _ (c .if1 .taken))
 
 slice-aggregate-read-eight : tie.Need-slice-aggregate-read-eight
-slice-aggregate-read-eight c = sym (length-take-le 8 (now (c .before .before .before .args .s)) (c .before .if1 .left))
+slice-aggregate-read-eight c = sym (length-take-le _ (now (c .before .before .before .args .s)) (omega (arith, c .before .if1 .left)))
 
 read-eight-requires : tie.Need-read-eight-requires
 read-eight-requires c κs = search needs

@@ -47,7 +47,7 @@ enum-told : tie.Need-enum-told Inv-loop μ-loop
 enum-told c = search needs
 
 returns-2 : tie.Need-returns-2 Inv-loop μ-loop
-returns-2 c = unended _ _ _ (c .before .before .before .before .loop .inv .0) (c .before .before .before .loop-test .taken) (sym (c .enum-told .given .1) ∙ c .before .before .find-byte .ensures)
+returns-2 c = unended _ _ _ (c .before .before .before .before .loop .inv .0) (omega (arith, c .before .before .before .loop-test .taken)) (sym (c .enum-told .given .1) ∙ c .before .before .find-byte .ensures)
 
 slice-aggregate-add-line : tie.Need-slice-aggregate-add-line Inv-loop μ-loop
 slice-aggregate-add-line c = sym (length-take-le (c .before .before .end .given .0 .0) (now (c .before .before .before .before .before .before .loop .rest)) (omega (arith, inside (c .before .before))))
