@@ -1,4 +1,5 @@
 pub mod DecimalLaws
+pub mod LifetimeLaws
 pub mod LineLaws
 pub mod PropertyGrammar
 pub mod PropertyLaws

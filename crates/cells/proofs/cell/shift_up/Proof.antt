@@ -1,0 +1,88 @@
+use Prim.Native.Nat.{ℕ, _+_, _*_, _≤_, _<_, _-_}
+use mathlib.Core.Path.{_≡_, refl, sym, ap, _∙_}
+use native.Mathlib.Omega.{arith}
+use native.Mathlib.Nat.{mul-le-mul-left}
+use borrow.Author.Needs.{needs}
+use lib.ListN.{length, length-set, take, drop, getD, set}
+use denote.Ref.{now}
+use mathlib.Core.List.{List}
+use Rattle.cells.proofs.CellLaws.{cut, cut-down, shifted-up}
+use Rattle.cells.proofs.cell.shift_up.Statement.{statement}
+use Rattle.cells.proofs.cell.shift_up.Tie as tie
+use Rattle.cells.proofs.cell.shift_up.Reads as reads
+use Rattle.cells.proofs.cell.shift_up.Lts as lts
+
+record Moving (s from to : ℕ) (l k : List ℕ) (i : ℕ) : Type 0 where
+  from-here : from ≤ i
+  to-here : i ≤ to
+  long : length k ≡ length l
+  keeps : cut s to l ≡ cut s i k
+
+abbrev Inv-loop : tie.InvT-loop
+Inv-loop all₀ stride at count from i₀ all i = Moving stride from (stride * count) all₀ all i
+
+abbrev μ-loop : tie.MeasureT-loop
+μ-loop all₀ stride at count from i₀ all i = i
+
+mul-from : tie.Need-mul-from Inv-loop μ-loop
+mul-from c = omega (arith, mul-le-mul-left (c .args .stride) (c .pre .0))
+
+mul-i : tie.Need-mul-i Inv-loop μ-loop
+mul-i c = omega arith
+
+loop-holds : tie.Need-loop-holds Inv-loop μ-loop
+loop-holds c = record { from-here = omega (arith, mul-le-mul-left (c .args .stride) (c .pre .0)); to-here = omega arith; long = refl; keeps = refl }
+
+sub-i : tie.Need-sub-i Inv-loop μ-loop
+sub-i c = omega arith
+
+slice-read-all : tie.Need-slice-read-all Inv-loop μ-loop
+slice-read-all c = omega arith
+
+add-all : tie.Need-add-all Inv-loop μ-loop
+add-all c = omega arith
+
+slice-write-all : tie.Need-slice-write-all Inv-loop μ-loop
+slice-write-all c = omega arith
+
+loop-less : tie.Need-loop-less Inv-loop μ-loop
+loop-less c = omega arith
+
+loop-again : tie.Need-loop-again Inv-loop μ-loop
+loop-again c =
+    let l = c .before .before .loop in
+    let v = l .inv in
+    let s = c .before .before .before .args .stride in
+    let e : l .i - 1 + 1 ≡ l .i = omega arith in
+    let b : l .i - 1 + s < length (l .all) = omega arith in
+    record { from-here = omega arith; to-here = omega arith; long = simp length-set (v .long); keeps = v .keeps ∙ ap (λ (j : ℕ). cut s j (l .all)) (sym e) ∙ cut-down s (l .i - 1) (l .all) _ b }
+
+same-length : tie.Need-same-length Inv-loop μ-loop
+same-length c = c .before .loop .inv .long
+
+returns : tie.Need-returns Inv-loop μ-loop
+returns c =
+    let l = c .before .loop in
+    let v = l .inv in
+    let a = c .before .before .args in
+    let p = c .before .before .pre in
+    let e : l .i ≡ a .stride * a .at = omega arith in
+    shifted-up (a .stride) (a .at) (a .count) (now (a .all)) (l .all) (p .0) (p .1) (omega arith) (rw e at (v .keeps))
+
+pub shift-up-spec : {M : Type 1} → statement M
+shift-up-spec =
+    tie.close
+    (tie.spec
+    Inv-loop
+    μ-loop
+    mul-from
+    mul-i
+    loop-holds
+    sub-i
+    slice-read-all
+    add-all
+    slice-write-all
+    loop-less
+    loop-again
+    same-length
+    returns)

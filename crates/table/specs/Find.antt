@@ -1,0 +1,29 @@
+-- Where a key stands among keys that rise, and what is to be done there.
+use Prim.Native.Nat.{ℕ, suc}
+use mathlib.Core.Bool.{Bool, true, false}
+use mathlib.Core.List.{List, [], _∷_}
+use Rattle.base.specs.Bytes.{Bytes}
+use Rattle.names.specs.Order.{orderOf}
+use Rattle.names.specs.declared.order.Order.the-variants.{Less, Equal, Greater}
+use Rattle.names.specs.declared.order.Order.{Order}
+use Rattle.table.specs.declared.change.Change.the-variants.{Leave, Remove, Replace, Insert}
+use Rattle.table.specs.declared.change.Change.{Change}
+use Rattle.table.specs.declared.find.Found.the-variants.{At, Missing}
+use Rattle.table.specs.declared.find.Found.{Found}
+
+abbrev pub byOrder : Order → Found → Found → Found → Found
+byOrder Less less equal greater = less
+byOrder Equal less equal greater = equal
+byOrder Greater less equal greater = greater
+
+-- the first key that is not below k: its place, the first being i, and whether it is k
+unfoldable pub placeOf : ℕ → Bytes → List Bytes → Found
+placeOf i k [] = Missing i
+placeOf i k (x ∷ xs) = byOrder (orderOf x k) (placeOf (suc i) k xs) (At i) (Missing i)
+
+-- the change that removes a key's row, or that sets it
+abbrev pub changeTo : Bool → Found → Change
+changeTo true (At i) = Remove i
+changeTo true (Missing i) = Leave
+changeTo false (At i) = Replace i
+changeTo false (Missing i) = Insert i
