@@ -154,10 +154,6 @@ module _ {A : Type 0} (test : A → Bool) where
   every-changed (Insert i) a l e g = every-insert i a l e (g refl)
 
 -- ---- a column of texts
-pub length-texts : (s n : ℕ) (lens : List ℕ) (all : Bytes) → n ≤ length lens → length (texts s n lens all) ≡ n
-unfolding texts
-length-texts s n lens all h = length-zip take n (take n lens) (cells s n all) (length-take-le n lens h) (length-cells s n all)
-
 module _ (s n m : ℕ) (change : Change) (cell : Bytes) (lens lens′ : List ℕ) (all all′ : Bytes) where
   pub texts-changed : (n′ : ℕ) → length (take n lens) ≡ n → Fits change n
       → take n′ lens′ ≡ changed change m (take n lens) → cells s n′ all′ ≡ changed change cell (cells s n all)

@@ -18,7 +18,7 @@ use Rattle.table.specs.Columns.{within}
 
 module _ {A : Type 0} (test : A → Bool) where
   -- one element more
-  every-more : (l : List A) (i : ℕ) (d : A) → i < length l → every test (take (suc i) l) ≡ (every test (take i l) && test (getD l i d))
+  pub every-more : (l : List A) (i : ℕ) (d : A) → i < length l → every test (take (suc i) l) ≡ (every test (take i l) && test (getD l i d))
   unfolding every
   every-more [] i d h = absurd (not-suc-le-zero h)
   every-more (x ∷ l) zero d h = and-true (test x)

@@ -13,20 +13,8 @@ use Rattle.base.proofs.ByteLaws.{and-left, and-right}
 use Rattle.base.specs.Bytes.{Bytes, every}
 use Rattle.cells.proofs.CellLaws.{length-cells, cell-at}
 use Rattle.cells.specs.Cells.{cells, cellAt}
+use Rattle.table.proofs.ChangeLaws.{length-zip, getD-zip}
 use Rattle.table.specs.Columns.{texts, within, lengthsFit}
-
-zip-at : (ns : List ℕ) (cs : List Bytes) (i : ℕ) → i < length ns → i < length cs → getD (zipWith take ns cs) i [] ≡ take (getD ns i 0) (getD cs i [])
-unfolding zipWith
-zip-at [] cs i h g = absurd (not-suc-le-zero h)
-zip-at (n ∷ ns) [] i h g = absurd (not-suc-le-zero g)
-zip-at (n ∷ ns) (c ∷ cs) zero h g = refl
-zip-at (n ∷ ns) (c ∷ cs) (suc i) h g = zip-at ns cs i (le-of-suc-le-suc h) (le-of-suc-le-suc g)
-
-zip-length : (ns : List ℕ) (cs : List Bytes) → length ns ≡ length cs → length (zipWith take ns cs) ≡ length ns
-unfolding zipWith
-zip-length [] cs e = refl
-zip-length (n ∷ ns) [] e = absurd (omega arith)
-zip-length (n ∷ ns) (c ∷ cs) e = let f : length ns ≡ length cs = omega arith in ap suc (zip-length ns cs f)
 
 -- a test that holds of all of a list holds at each index
 pub every-at : {A : Type 0} (test : A → Bool) (l : List A) (i : ℕ) (d : A) → every test l ≡ true → i < length l → test (getD l i d) ≡ true
@@ -41,14 +29,14 @@ module _ (s n : ℕ) (lens : List ℕ) (fits : n ≤ length lens) where
   text-at all i h =
       let a : i < length (take n lens) = simp length-take (omega arith) in
       let b : i < length (cells s n all) = simp length-cells h in
-      zip-at (take n lens) (cells s n all) i a b ∙ rw (getD-take n lens i 0 h, cell-at s n i all [] h)
+      getD-zip take (take n lens) (cells s n all) i 0 [] [] a b ∙ rw (getD-take n lens i 0 h, cell-at s n i all [] h)
 
   pub text-is : (all : Bytes) (i : ℕ) → i < n → {t : Bytes} → t ≡ take (getD lens i 0) (cellAt s i all) → getD (texts s n lens all) i [] ≡ t
   text-is all i h e = text-at all i h ∙ sym e
 
   pub length-texts : (all : Bytes) → length (texts s n lens all) ≡ n
   unfolding texts
-  length-texts all = zip-length (take n lens) (cells s n all) (length-take-le n lens fits ∙ sym (length-cells s n all)) ∙ length-take-le n lens fits
+  length-texts all = length-zip take n (take n lens) (cells s n all) (length-take-le n lens fits) (length-cells s n all)
 
   pub fit-at : lengthsFit s n lens ≡ true → (i : ℕ) → i < n → getD lens i 0 ≤ s
   fit-at p i h =

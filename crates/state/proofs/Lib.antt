@@ -1,0 +1,4 @@
+pub mod DueLaws
+pub mod FormLaws
+pub mod SnapshotLaws
+pub mod StateLaws

@@ -1,0 +1,4 @@
+pub mod Due
+pub mod IllFormed
+pub mod Snapshots
+pub mod Views
