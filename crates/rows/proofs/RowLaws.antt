@@ -42,7 +42,6 @@ module _ {A : Type 0} where
 
   pub above-place : (o : Order) (j : Bytes) (new r : Bytes × A) (l rest : Rows A) → orderOf j (new .0) ≡ Less
       → Above j (r ∷ l) → Above j rest → Above j (place o new r l rest)
-
   above-place Less j new r l rest e h i = (e, h)
   above-place Equal j new r l rest e h i = (e, h .1)
   above-place Greater j new r l rest e h i = (h .0, i)
@@ -257,6 +256,7 @@ module _ {A : Type 0} where
       more : (b : Bool) → suc (cond b (length l) (suc (length l))) ≡ cond b (suc (length l)) (suc (suc (length l)))
       more true = refl
       more false = refl
+
       go : (o : Order) → orderOf k (r .0) ≡ o → length (setRow k a l) ≡ cond (hasKey k l) (length l) (suc (length l))
           → length (place o (k, a) r l (setRow k a l)) ≡ cond (isEqual o || hasKey k l) (suc (length l)) (suc (suc (length l)))
       go Less e ih = rw (above-hasKey k l (above-trans k (r .0) l e (h .0)))

@@ -71,6 +71,7 @@ next-step t at e rest = go (leb t e) rest
     pick : (b : Bool) (i f : ℕ) → cond b (At (suc i) f) (At (suc at) e) ≡ next (cond b (At i f) (At at e))
     pick true i f = refl
     pick false i f = refl
+
     go : (b : Bool) (rest : Due) → cond b (next rest) (before (suc at) e (next rest)) ≡ next (cond b rest (before at e rest))
     go true rest = refl
     go false (At i f) = pick (ltb f e) i f
@@ -108,6 +109,7 @@ due-at t (e ∷ es) i f q =
     pick : (b : Bool) (j g : ℕ) → e < t → DueAt t es j g → cond b (At (suc j) g) (At 0 e) ≡ At i f → DueAt t (e ∷ es) i f
     pick true j g h d q = due-there t e es j g i f d q
     pick false j g h d q = due-here t e es i f h q
+
     go : (b : Bool) → leb t e ≡ b → (d : Due) → ((j g : ℕ) → d ≡ At j g → DueAt t es j g)
         → cond b (next d) (before 0 e (next d)) ≡ At i f → DueAt t (e ∷ es) i f
     go true h (At j g) ih q = due-there t e es j g i f (ih j g refl) q
@@ -141,6 +143,7 @@ sooner-keyed t e k keys d late = go (leb t e) refl d
         → cond (leb e f) (some (k, e)) (some (getD keys i [], f)) ≡ keyed (k ∷ keys) (cond b (At (suc i) f) (At 0 e))
     pick true i f q = rw (lt-leb e f (ltb-true f e q))
     pick false i f q = rw (le-leb e f (ltb-false f e q))
+
     go : (b : Bool) → leb t e ≡ b → (d : Due)
         → sooner t k (expiryIn e) (keyed keys d) ≡ keyed (k ∷ keys) (cond b (next d) (before 0 e (next d)))
     go true h d = sooner-not t e k (keyed keys d) (leb-true t e h) ∙ sym (keyed-next k keys d)
@@ -256,6 +259,7 @@ least-here t q l x e h least = record { held = q .1; among = inl refl; expiry = 
     go : (r : Bytes × Held) (f : ℕ) → Among r (q ∷ l) → r .1 .expiry ≡ some f → f < t → x ≤ f
     go r f (inl p) g s = let z : x ≡ f = cc in omega arith
     go r f (inr m) g s = least r f m g s
+
     ord : Sorted (q ∷ l) → (r : Bytes × Held) → Among r (q ∷ l) → r .1 .expiry ≡ some x → notGreater (orderOf (q .0) (r .0)) ≡ true
     ord s r (inl p) g = ap notGreater (ap (λ (y : Bytes × Held). orderOf (q .0) (y .0)) p ∙ order-self (q .0))
     ord s r (inr m) g = ap notGreater (above-among (q .0) l r (s .0) m)
@@ -268,6 +272,7 @@ least-there t q l k e d late = record { held = d .held; among = inr (d .among); 
     go : (r : Bytes × Held) (f : ℕ) → Among r (q ∷ l) → r .1 .expiry ≡ some f → f < t → e ≤ f
     go r f (inl p) g s = omega (arith, late f (ap (λ (y : Bytes × Held). y .1 .expiry) (sym p) ∙ g) s)
     go r f (inr m) g s = d .least r f m g s
+
     ord : Sorted (q ∷ l) → (r : Bytes × Held) → Among r (q ∷ l) → r .1 .expiry ≡ some e → notGreater (orderOf k (r .0)) ≡ true
     ord s r (inl p) g = absurd (omega (arith, late e (ap (λ (y : Bytes × Held). y .1 .expiry) (sym p) ∙ g) (d .due)))
     ord s r (inr m) g = d .first (s .1) r m g

@@ -50,7 +50,8 @@ module _ (keys : Bytes) (kl vl ns es : List ℕ) (n : ℕ) (h : Header) where
         number = ltb-false maxSequence (h .number .0) (passed 6 rows e);
         published = ltb-false (h .«last_tick» .0) (h .«last_published» .0) (passed 7 rows e);
         tick = ltb-false maxTick (h .«last_tick» .0) (passed 8 rows e);
-        are-expiries = not-false _ (passed 9 rows e) }
+        are-expiries = not-false _ (passed 9 rows e);
+      }
 
   pub columns-good : Good keys kl vl ns es n h → firstOf (illForms keys kl vl ns es n h) ≡ none
   unfolding firstOf

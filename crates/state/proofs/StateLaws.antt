@@ -96,13 +96,14 @@ module _ (change : Change) (n k v number expiry : ℕ) (keyCell valueCell keys v
 
     pub good-after : Good keys′ kl′ vl′ ns′ es′ (countAfter change n) h′
     good-after = record {
-        count = fits-most change n f .1;
-        key-lengths = rw (c .of-key-lengths) (every-changed (within 0 96) change k (take n kl) (g .key-lengths) (λ e. at-most-is 96 k (key-fits e)));
-        are-keys = rw keys-after (every-changed isKey change (take k keyCell) (texts 96 n kl keys) (g .are-keys) is-key);
-        rise = rw keys-after rises;
-        value-lengths = rw (c .of-value-lengths) (every-changed (within 1 256) change v (take n vl) (g .value-lengths) value-fits);
-        are-below = rw (c .of-numbers) (every-changed (within 0 (h′ .number .0)) change number (take n ns) (every-weaker (within 0 (h .number .0)) (within 0 (h′ .number .0)) (within-higher 0 (h .number .0) (h′ .number .0) higher) (take n ns) (g .are-below)) (λ e. at-most-is (h′ .number .0) number (numbered e)));
-        number = below;
-        published = times;
-        tick = ticks;
-        are-expiries = rw (c .of-expiries) (every-changed isExpiry change expiry (take n es) (g .are-expiries) lasts) }
+      count = fits-most change n f .1;
+      key-lengths = rw (c .of-key-lengths) (every-changed (within 0 96) change k (take n kl) (g .key-lengths) (λ e. at-most-is 96 k (key-fits e)));
+      are-keys = rw keys-after (every-changed isKey change (take k keyCell) (texts 96 n kl keys) (g .are-keys) is-key);
+      rise = rw keys-after rises;
+      value-lengths = rw (c .of-value-lengths) (every-changed (within 1 256) change v (take n vl) (g .value-lengths) value-fits);
+      are-below = rw (c .of-numbers) (every-changed (within 0 (h′ .number .0)) change number (take n ns) (every-weaker (within 0 (h .number .0)) (within 0 (h′ .number .0)) (within-higher 0 (h .number .0) (h′ .number .0) higher) (take n ns) (g .are-below)) (λ e. at-most-is (h′ .number .0) number (numbered e)));
+      number = below;
+      published = times;
+      tick = ticks;
+      are-expiries = rw (c .of-expiries) (every-changed isExpiry change expiry (take n es) (g .are-expiries) lasts);
+    }

@@ -54,10 +54,11 @@ heldOf s = entriesOf (s .table .count) (s .table .values) (s .table .«value_len
 
 unfoldable pub view : Server → Ledger Entry
 view s = record {
-    number = s .header .number .0;
-    lastTick = s .header .«last_tick» .0;
-    lastPublished = s .header .«last_published» .0;
-    rows = rowsOf (keysOf s) (heldOf s) }
+  number = s .header .number .0;
+  lastTick = s .header .«last_tick» .0;
+  lastPublished = s .header .«last_published» .0;
+  rows = rowsOf (keysOf s) (heldOf s);
+}
 
 -- ---- what the refusals read of it
 unfoldable pub plain : Entry → Held

@@ -189,7 +189,7 @@ module _ (s n i : ℕ) (cell old new : Bytes) (whole : length cell ≡ s) where
       let g : i < n + 1 = omega arith in
       let k : i < length (cells s (n + 1) new) = simp length-cells g in
       let own : getD (cells s (n + 1) new) i [] ≡ cell =
-          cell-at s (n + 1) i new [] g ∙ sym (take-all (length cell) (cellAt s i new) (cell-fits new)) ∙ p .starts in
+      cell-at s (n + 1) i new [] g ∙ sym (take-all (length cell) (cellAt s i new) (cell-fits new)) ∙ p .starts in
       sym (insert-removed i (cells s (n + 1) new) [] k)
       ∙ ap (λ (x : Bytes). insertAt i x (removeAt i (cells s (n + 1) new))) own
       ∙ ap (insertAt i cell) (p .others)

@@ -45,11 +45,12 @@ loop-again : tie.Need-loop-again Inv-loop μ-loop
 loop-again c =
     let l = c .before .before .before .loop in
     let s = c .before .before .before .before in
-    let a = s .before .args in
-    (omega arith,
-     c .earlier-of .ensures
-     ∙ ap (earlier (a .tick .0) (l .i - 1) (getD (a .expiries .now) (l .i - 1) 0)) (l .inv .1)
-     ∙ due-step (a .tick .0) (a .count) (a .expiries .now) (long s) (l .i) (l .i - 1) (omega arith) (l .inv .0))
+    let a = s .before .args in (
+      omega arith,
+      c .earlier-of .ensures
+          ∙ ap (earlier (a .tick .0) (l .i - 1) (getD (a .expiries .now) (l .i - 1) 0)) (l .inv .1)
+          ∙ due-step (a .tick .0) (a .count) (a .expiries .now) (long s) (l .i) (l .i - 1) (omega arith) (l .inv .0),
+    )
 
 returns : tie.Need-returns Inv-loop μ-loop
 returns c =

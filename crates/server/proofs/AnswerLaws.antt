@@ -1,0 +1,78 @@
+-- Laws of what a call promises that are the same for every call: what a refused call gives, what an accepted one, and when a table of checks
+-- comes to the refusal of a call. Assumes nothing.
+use Prim.Native.Nat.{ℕ}
+use native.Mathlib.Omega.{arith}
+use mathlib.Core.List.{List, [], _++_}
+use mathlib.Core.Option.{Option, none, some}
+use mathlib.Core.Path.{_≡_, refl, sym, _∙_}
+use lib.ListN.{length}
+use Rattle.answers.specs.Answers.{answer}
+use Rattle.answers.specs.declared.answer.Kind.the-variants.{Refused}
+use Rattle.answers.specs.declared.refusal.Refusal.{Refusal}
+use Rattle.base.proofs.CheckLaws.{pass-all, stop-all}
+use Rattle.base.specs.Bytes.{Bytes}
+use Rattle.base.specs.Checks.{Check, firstOf}
+use Rattle.base.specs.Output.{put}
+use Rattle.server.specs.Answers.{acceptedKind, answerFor}
+use Rattle.server.specs.Calls.{Call}
+use Rattle.server.specs.Next.{acceptedNext, nextOf}
+use Rattle.server.specs.Output.{acceptedBytes, bytesFor}
+use Rattle.server.specs.Promises.{Answered}
+use Rattle.server.specs.Refusals.{callChecks, refusalOf}
+use Rattle.server.specs.declared.Reply.{Reply}
+use Rattle.state.specs.IllFormed.{illFormsOf, WellFormed}
+use Rattle.state.specs.Views.{view, ledgerOf}
+use Rattle.state.specs.declared.Server.{Server}
+
+-- no bytes change nothing
+pub put-nothing : (d : Bytes) → put d 0 [] ≡ d
+unfolding put
+put-nothing d = refl
+
+-- a refused call: the state and the output as they were, and the answer with the state's own number
+pub refused-call : (s : Server) (x : Call) (out : Bytes) (r : Reply) (reason : Refusal) → refusalOf s x ≡ some reason → r .state ≡ s
+    → r .answer ≡ answer (Refused reason (s .header .number)) 0 → Answered s x out r out
+unfolding answerFor nextOf bytesFor
+refused-call s x out r reason e kept told = record {
+  answer = rw e told;
+  ledger = rw (e, kept) refl;
+  refused = λ other f. kept;
+  output = rw e (sym (put-nothing out));
+  well-formed = λ w. rw kept w;
+}
+
+-- an accepted call: the answer, the ledger and the bytes of an accepted call, and a state that stays well-formed
+pub accepted-call : (s : Server) (x : Call) (out : Bytes) (r : Reply) (after : Bytes) → refusalOf s x ≡ none
+    → r .answer ≡ answer (acceptedKind (view s) x) (length (acceptedBytes (view s) x)) → view (r .state) ≡ acceptedNext (view s) x
+    → after ≡ put out 0 (acceptedBytes (view s) x) → (WellFormed s → WellFormed (r .state)) → Answered s x out r after
+unfolding answerFor nextOf bytesFor
+accepted-call s x out r after e told became written stays = record {
+  answer = rw e told;
+  ledger = rw e became;
+  refused = λ reason f. absurd (let z : _≡_ {A = ℕ} 0 1 = cc in omega arith);
+  output = rw e written;
+  well-formed = stays;
+}
+
+-- two tables of checks, one behind the other, that let all pass: both do
+pub both-passed : {R : Type 0} (a b : List (Check R)) → firstOf (a ++ b) ≡ none → (firstOf a ≡ none) × (firstOf b ≡ none)
+both-passed {R} a b e = go (firstOf a) refl
+  where
+    go : (t : Option R) → firstOf a ≡ t → (firstOf a ≡ none) × (firstOf b ≡ none)
+    go none f = (f, sym (pass-all a b f) ∙ e)
+    go (some r) f = let g : firstOf (a ++ b) ≡ some r = stop-all a b r f in absurd (let z : _≡_ {A = ℕ} 0 1 = cc in omega arith)
+
+-- a table behind the test of the state: it comes to the refusal of a call if it does so wherever the state is well-formed
+pub refusal-is : (s : Server) (x : Call) (checks : List (Check Refusal)) → (WellFormed s → firstOf checks ≡ firstOf (callChecks (ledgerOf (view s)) x))
+    → firstOf (illFormsOf s ++ checks) ≡ refusalOf s x
+unfolding refusalOf
+refusal-is s x checks same = go (firstOf (illFormsOf s)) refl
+  where
+    go : (t : Option Refusal) → firstOf (illFormsOf s) ≡ t → firstOf (illFormsOf s ++ checks) ≡ firstOf (illFormsOf s ++ callChecks (ledgerOf (view s)) x)
+    go none e = pass-all (illFormsOf s) checks e ∙ same e ∙ sym (pass-all (illFormsOf s) (callChecks (ledgerOf (view s)) x) e)
+    go (some r) e = stop-all (illFormsOf s) checks r e ∙ sym (stop-all (illFormsOf s) (callChecks (ledgerOf (view s)) x) r e)
+
+-- the state of an accepted call is well-formed
+pub accepted-state : (s : Server) (x : Call) → refusalOf s x ≡ none → WellFormed s
+unfolding refusalOf
+accepted-state s x e = both-passed (illFormsOf s) (callChecks (ledgerOf (view s)) x) e .0

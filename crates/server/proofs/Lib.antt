@@ -1,0 +1,9 @@
+pub mod AnswerLaws
+pub mod ExpiryLaws
+pub mod IcanhazLaws
+pub mod KvsetLaws
+pub mod QuietLaws
+pub mod RunLaws
+pub mod StartLaws
+pub mod TickLaws
+pub mod UpdateLaws

@@ -1,0 +1,300 @@
+-- A Tick repeated at the same tick has nothing left to do by the 65th call: each call before takes out a row that is due, of which there
+-- are at most 64, or, where none is at first, gives the one sign of life. Assumes nothing.
+use Prim.Native.Nat.{ℕ, zero, suc, _-_, _≤_, _<_}
+use native.Mathlib.Omega.{arith}
+use mathlib.Core.Bool.{Bool, true, false}
+use mathlib.Core.List.{List, [], _∷_, zipWith}
+use mathlib.Core.Option.{Option, none, some}
+use mathlib.Core.Path.{_≡_, refl, sym, ap, _∙_}
+use lib.Dec.{leb, ltb, eqb}
+use lib.ListN.{length, take}
+use lib.Seq.{length-take-le}
+use borrow.Author.Tests.{leb-true, leb-false, le-leb, le-ltb, lt-leb}
+use Rattle.answers.specs.Answers.{answer}
+use Rattle.answers.specs.declared.answer.Kind.the-variants.{Refused, Nothing}
+use Rattle.answers.specs.declared.refusal.Refusal.the-variants.{Exhausted}
+use Rattle.answers.specs.declared.refusal.Refusal.{Refusal}
+use Rattle.base.proofs.ByteLaws.{and-left, and-right}
+use Rattle.base.proofs.CheckLaws.{pass-all}
+use Rattle.base.specs.Bytes.{Bytes, every}
+use Rattle.base.specs.Checks.{firstOf}
+use Rattle.base.specs.Output.{put}
+use Rattle.messages.proofs.LengthLaws.{kvpub-length, hugz-bytes}
+use Rattle.messages.specs.Fields.{bytesOf, hugz}
+use Rattle.names.specs.Keys.{isKey}
+use Rattle.names.specs.Numbers.{maxSequence, maxTick}
+use Rattle.names.specs.Order.{orderOf}
+use Rattle.names.specs.declared.order.Order.the-variants.{Less, Equal, Greater}
+use Rattle.names.specs.declared.order.Order.{Order}
+use Rattle.rows.proofs.RowLaws.{map-remove, map-length, sorted-remove, sorted-rising, rising-sorted}
+use Rattle.rows.specs.Rows.{Rows, part, removeRow, keysIn, Sorted, mapRows, rising}
+use Rattle.server.proofs.RunLaws.{refusal-is}
+use Rattle.server.specs.Answers.{answerFor}
+use Rattle.server.specs.Calls.{tick}
+use Rattle.server.specs.Deeds.{Deed, expire, beat, quiet, deedOf, deed}
+use Rattle.server.specs.Next.{tickNext, acceptedNext, nextOf}
+use Rattle.server.specs.Output.{tickBytes, acceptedBytes, bytesFor}
+use Rattle.server.specs.Promises.{Answered}
+use Rattle.server.specs.Refusals.{expiry, tickChecks, deedChecks, callChecks}
+use Rattle.server.specs.Repeats.QuietBy.{quietens, stops}
+use Rattle.server.specs.Repeats.SilentBy.{silent, spent}
+use Rattle.server.specs.Repeats.{tickStep, ticked, QuietBy, Ticking, SilentBy}
+use Rattle.server.specs.declared.Reply.{Reply}
+use Rattle.state.proofs.DueLaws.{dueCount, count-due, count-length, count-none, count-some, due-key}
+use Rattle.state.proofs.FormLaws.{good-server}
+use Rattle.state.proofs.StateLaws.{Sized}
+use Rattle.state.specs.Due.{leastDue}
+use Rattle.state.specs.IllFormed.{WellFormed}
+use Rattle.state.specs.Views.{Held, Entry, Ledger, plain, ledgerOf, view, entry, stamp, entriesOf, keysOf, heldOf}
+use Rattle.state.specs.declared.Server.{Server}
+use Rattle.table.proofs.ChangeLaws.{length-zip}
+use Rattle.table.proofs.FindLaws.{keys-in-rows}
+use Rattle.table.proofs.TextLaws.{length-texts}
+use Rattle.table.specs.Columns.{texts, rowsOf, row}
+
+-- ---- keys of rows
+pub map-keys : {A B : Type 0} (f : A → B) (l : Rows A) → keysIn (mapRows f l) ≡ keysIn l
+unfolding mapRows keysIn
+map-keys f [] = refl
+map-keys f (r ∷ l) = ap (λ (t : List Bytes). r .0 ∷ t) (map-keys f l)
+
+pub sorted-map : {A B : Type 0} (f : A → B) (l : Rows A) → Sorted l → Sorted (mapRows f l)
+sorted-map f l s = rising-sorted (mapRows f l) (ap rising (map-keys f l) ∙ sorted-rising l s)
+
+-- what holds of every key holds of those that are left
+pub every-remove : {A : Type 0} (test : Bytes → Bool) (k : Bytes) (l : Rows A) → every test (keysIn l) ≡ true → every test (keysIn (removeRow k l)) ≡ true
+unfolding every keysIn removeRow
+every-remove test k [] e = refl
+every-remove test k (r ∷ l) e =
+    let a = and-left (test (r .0)) (every test (keysIn l)) e in
+    let b = and-right (test (r .0)) (every test (keysIn l)) e in
+    go a b (orderOf k (r .0)) (every-remove test k l b)
+  where
+    go : test (r .0) ≡ true → every test (keysIn l) ≡ true → (o : Order) → every test (keysIn (removeRow k l)) ≡ true
+        → every test (keysIn (part o r l (removeRow k l))) ≡ true
+    go a b Less ih = rw (a, b)
+    go a b Equal ih = b
+    go a b Greater ih = rw (a, ih)
+
+-- ---- what a Tick writes is short
+key-short : (key : Bytes) → isKey key ≡ true → length key ≤ 96
+unfolding isKey
+key-short key e = leb-true (length key) 96 (and-left (leb (length key) 96) _ e)
+
+-- the KVPUB of a row that expired: at most 114 bytes
+pub expiry-bound : (n : ℕ) (key : Bytes) → isKey key ≡ true → length (expiry n key) ≤ 114
+unfolding expiry
+expiry-bound n key e =
+    let k = key-short key e in
+    let f = le-leb (length key) 255 (omega arith) in
+    omega (arith, rw f at (kvpub-length n key k [] [] []))
+
+pub hugz-length : length (bytesOf hugz) ≡ 22
+hugz-length = rw hugz-bytes
+
+-- ---- one Tick
+-- what the refusals read of the rows
+abbrev pub heldIn : Ledger Entry → Rows Held
+heldIn v = mapRows plain (v .rows)
+
+-- a ledger without a row that expired, and one after a sign of life
+abbrev without : ℕ → Ledger Entry → Bytes → Ledger Entry
+without t v key = record { number = suc (v .number); lastTick = t; lastPublished = t; rows = removeRow key (v .rows) }
+
+abbrev alive : ℕ → Ledger Entry → Ledger Entry
+alive t v = record { number = v .number; lastTick = t; lastPublished = t; rows = v .rows }
+
+module _ (t room : ℕ) (late : t ≤ maxTick) (enough : 114 ≤ room) where
+  tick-passes : (last : ℕ) → last ≤ t → firstOf (tickChecks last t) ≡ none
+  unfolding firstOf
+  tick-passes last h = rw (le-leb t maxTick late, le-ltb t last h)
+
+  -- the tick being good, the deed decides
+  decided : (b : Ledger Held) (d : Deed) → b .lastTick ≤ t → deed b t ≡ d → firstOf (callChecks b (tick t room)) ≡ firstOf (deedChecks (b .number) d room)
+  unfolding callChecks
+  decided b d h e =
+      pass-all (tickChecks (b .lastTick) t) (deedChecks (b .number) (deed b t) room) (tick-passes (b .lastTick) h)
+      ∙ ap (λ (x : Deed). firstOf (deedChecks (b .number) x room)) e
+
+  -- one call more
+  later : {n : ℕ} {v : Ledger Entry} → QuietBy n t room (tickStep t room v) → QuietBy (suc n) t room v
+  unfolding ticked
+  later (quietens k h a d) = quietens (suc k) (omega arith) a d
+  later (stops k h a) = stops (suc k) (omega arith) a
+
+  module _ (v : Ledger Entry) (h : v .lastTick ≤ t) where
+    outcome : (d : Deed) → deed (ledgerOf v) t ≡ d → firstOf (callChecks (ledgerOf v) (tick t room)) ≡ firstOf (deedChecks (v .number) d room)
+    unfolding ledgerOf
+    outcome d e = decided (ledgerOf v) d h e
+
+    stepped : (d : Deed) → deed (ledgerOf v) t ≡ d → firstOf (deedChecks (v .number) d room) ≡ none → tickStep t room v ≡ tickNext v d t
+    unfolding tickStep acceptedNext
+    stepped d e f = rw (outcome d e ∙ f, e)
+
+    deed-is : (x : Option (Bytes × ℕ)) → leastDue t (heldIn v) ≡ x → deed (ledgerOf v) t ≡ deedOf t (v .lastPublished) x
+    unfolding deed ledgerOf
+    deed-is x e = ap (deedOf t (v .lastPublished)) e
+
+    -- no row is due, and something was published of late: quiet
+    rests : (n : ℕ) → leastDue t (heldIn v) ≡ none → t - v .lastPublished < 1000 → QuietBy n t room v
+    unfolding ticked firstOf
+    rests n e p =
+        let d : deed (ledgerOf v) t ≡ quiet = deed-is none e ∙ rw (lt-leb 1000 (t - v .lastPublished) p) in
+        quietens 0 (omega arith) (outcome quiet d) d
+
+    -- no row is due, and nothing was published of late: a sign of life
+    beats : {n : ℕ} → leastDue t (heldIn v) ≡ none → 1000 ≤ t - v .lastPublished → QuietBy n t room (alive t v) → QuietBy (suc n) t room v
+    unfolding firstOf tickNext
+    beats e p q =
+        let d : deed (ledgerOf v) t ≡ beat = deed-is none e ∙ rw (le-leb 1000 (t - v .lastPublished) p) in
+        let f : firstOf (deedChecks (v .number) beat room) ≡ none = rw (hugz-length, le-ltb room 22 (omega arith)) in
+        later (rw (stepped beat d f) q)
+
+    -- a row is due: it goes, or there is no number for that
+    expires : {n : ℕ} (b : Bytes × ℕ) → leastDue t (heldIn v) ≡ some b → isKey (b .0) ≡ true → QuietBy n t room (without t v (b .0)) → QuietBy (suc n) t room v
+    unfolding firstOf tickNext ticked
+    expires {n} b e k q = go (eqb (v .number) maxSequence) refl
+      where
+        d : deed (ledgerOf v) t ≡ expire (b .0)
+        d = deed-is (some b) e
+
+        short : ltb room (length (expiry (suc (v .number)) (b .0))) ≡ false
+        short = le-ltb room (length (expiry (suc (v .number)) (b .0))) (omega (arith, expiry-bound (suc (v .number)) (b .0) k))
+
+        go : (x : Bool) → eqb (v .number) maxSequence ≡ x → QuietBy (suc n) t room v
+        go true f = stops 0 (omega arith) (outcome (expire (b .0)) d ∙ rw f)
+        go false f = later (rw (stepped (expire (b .0)) d (rw (f, short))) q)
+
+  -- ---- Tick after Tick
+  -- at most n rows are due, and where none is, something was published of late
+  drain : (n : ℕ) (v : Ledger Entry) → Sorted (v .rows) → every isKey (keysIn (v .rows)) ≡ true → v .lastTick ≤ t → dueCount t (heldIn v) ≤ n
+      → (dueCount t (heldIn v) ≡ 0 → t - v .lastPublished < 1000) → QuietBy n t room v
+  drain zero v s k h c p = go (leastDue t (heldIn v)) refl
+    where
+      go : (x : Option (Bytes × ℕ)) → leastDue t (heldIn v) ≡ x → QuietBy zero t room v
+      go none e = rests v h zero e (p (count-none t (heldIn v) e))
+      go (some b) e = absurd (omega (arith, count-some t (heldIn v) b e))
+  drain (suc n) v s k h c p = go (leastDue t (heldIn v)) refl (λ w. drain n w)
+    where
+      go : (x : Option (Bytes × ℕ)) → leastDue t (heldIn v) ≡ x
+          → ((w : Ledger Entry) → Sorted (w .rows) → every isKey (keysIn (w .rows)) ≡ true → w .lastTick ≤ t → dueCount t (heldIn w) ≤ n
+          → (dueCount t (heldIn w) ≡ 0 → t - w .lastPublished < 1000) → QuietBy n t room w)
+          → QuietBy (suc n) t room v
+      go none e ih = rests v h (suc n) e (p (count-none t (heldIn v) e))
+      go (some b) e ih =
+          let held = sorted-map plain (v .rows) s in
+          let key = due-key isKey t (heldIn v) b (ap (every isKey) (map-keys plain (v .rows)) ∙ k) e in
+          let fewer = count-due t (heldIn v) (b .0) (b .1) held e in
+          let same = ap (dueCount t) (map-remove plain (b .0) (v .rows)) in
+          expires v h b e key
+          (ih (without t v (b .0)) (sorted-remove (b .0) (v .rows) s) (every-remove isKey (b .0) (v .rows) k) (omega arith) (omega arith) (λ z. omega arith))
+
+  quiet-by : (v : Ledger Entry) → Sorted (v .rows) → length (v .rows) ≤ 64 → every isKey (keysIn (v .rows)) ≡ true → v .lastTick ≤ t
+      → QuietBy 64 t room v
+  quiet-by v s l k h = go (leastDue t (heldIn v)) refl (leb 1000 (t - v .lastPublished)) refl
+    where
+      few : dueCount t (heldIn v) ≤ 64
+      few = omega (arith, count-length t (heldIn v), map-length plain (v .rows))
+
+      go : (x : Option (Bytes × ℕ)) → leastDue t (heldIn v) ≡ x → (y : Bool) → leb 1000 (t - v .lastPublished) ≡ y → QuietBy 64 t room v
+      go (some b) e y f = drain 64 v s k h few (λ z. absurd (omega (arith, count-some t (heldIn v) b e)))
+      go none e true f =
+          let c = count-none t (heldIn v) e in
+          beats v h e (leb-true 1000 (t - v .lastPublished) f) (drain 63 (alive t v) s k (omega arith) (omega arith) (λ z. omega arith))
+      go none e false f = rests v h 64 e (leb-false 1000 (t - v .lastPublished) f)
+
+-- ---- the 65th call
+pub sixty-fifth : (v : Ledger Entry) (t room : ℕ) → Sorted (v .rows) → length (v .rows) ≤ 64 → every isKey (keysIn (v .rows)) ≡ true
+    → v .lastTick ≤ t → t ≤ maxTick → 114 ≤ room → QuietBy 64 t room v
+sixty-fifth v t room s l k h late enough = quiet-by t room late enough v s l k h
+
+-- ---- the same from a well-formed state
+module _ (s : Server) (z : Sized (s .table .«key_lengths») (s .table .«value_lengths») (s .numbers) (s .expiries)) (w : WellFormed s) where
+  abbrev count : ℕ
+  count = s .table .count
+
+  few-rows : count ≤ 64
+  few-rows = good-server s w .count
+
+  keys-long : length (keysOf s) ≡ count
+  keys-long = length-texts 96 count (s .table .«key_lengths») (omega (arith, few-rows, z .key-lengths)) (s .table .keys)
+
+  column-long : (l : List ℕ) → length l ≡ 64 → length (take count l) ≡ count
+  column-long l e = length-take-le count l (omega (arith, few-rows))
+
+  held-long : length (heldOf s) ≡ count
+  unfolding entriesOf
+  held-long =
+      length-zip entry count (texts 256 count (s .table .«value_lengths») (s .table .values)) (zipWith stamp (take count (s .numbers)) (take count (s .expiries)))
+      (length-texts 256 count (s .table .«value_lengths») (omega (arith, few-rows, z .value-lengths)) (s .table .values))
+      (length-zip stamp count (take count (s .numbers)) (take count (s .expiries)) (column-long (s .numbers) (z .numbers)) (column-long (s .expiries) (z .expiries)))
+
+  keys-held : keysIn (view s .rows) ≡ keysOf s
+  unfolding view
+  keys-held = keys-in-rows (keysOf s) (heldOf s) (keys-long ∙ sym held-long)
+
+  rows-few : length (view s .rows) ≤ 64
+  unfolding view rowsOf
+  rows-few = omega (arith, few-rows, length-zip row count (keysOf s) (heldOf s) keys-long held-long)
+
+  pub state-quiet : (t room : ℕ) → s .header .«last_tick» .0 ≤ t → t ≤ maxTick → 114 ≤ room → QuietBy 64 t room (view s)
+  unfolding view
+  state-quiet t room h late enough =
+      let g = good-server s w in
+      sixty-fifth (view s) t room (rising-sorted (view s .rows) (ap rising keys-held ∙ g .rise)) rows-few (ap (every isKey) keys-held ∙ g .are-keys) h late enough
+
+-- ---- the calls on a server
+-- one Tick more, at the end
+ticked-more : (k t room : ℕ) (v : Ledger Entry) → ticked (suc k) t room v ≡ tickStep t room (ticked k t room v)
+unfolding ticked
+ticked-more zero t room v = refl
+ticked-more (suc k) t room v = ticked-more k t room (tickStep t room v)
+
+module _ (s : Server) (t room : ℕ) (w : WellFormed s) where
+  pub next-is-step : nextOf s (tick t room) ≡ tickStep t room (view s)
+  unfolding nextOf tickStep
+  next-is-step = rw (refusal-is s (tick t room) w)
+
+  module _ (out : Bytes) (r : Reply) (after : Bytes) (a : Answered s (tick t room) out r after) where
+    abbrev verdict-on : Option Refusal
+    verdict-on = firstOf (callChecks (ledgerOf (view s)) (tick t room))
+
+    -- a call that has nothing to do answers Nothing and leaves the output
+    pub quiet-answer : verdict-on ≡ none → deed (ledgerOf (view s)) t ≡ quiet → r .answer ≡ answer (Nothing (s .header .number)) 0
+    unfolding answerFor acceptedBytes tickBytes view
+    quiet-answer e d = a .answer ∙ rw (refusal-is s (tick t room) w ∙ e, d)
+
+    pub quiet-output : verdict-on ≡ none → deed (ledgerOf (view s)) t ≡ quiet → after ≡ out
+    unfolding bytesFor acceptedBytes tickBytes put
+    quiet-output e d = a .output ∙ rw (refusal-is s (tick t room) w ∙ e, d)
+
+    pub spent-answer : verdict-on ≡ some Exhausted → r .answer ≡ answer (Refused Exhausted (s .header .number)) 0
+    unfolding answerFor
+    spent-answer e = a .answer ∙ rw (refusal-is s (tick t room) w ∙ e)
+
+-- of Ticks one after another the 65th at the latest answers Nothing, unless one before is refused for want of a number
+module _ {t room : ℕ} {state : ℕ → Server} {out : ℕ → Bytes} {reply : ℕ → Reply} {after : ℕ → Bytes} (c : Ticking t room state out reply after)
+    (w : WellFormed (state 0)) where
+  stays : (k : ℕ) → WellFormed (state k)
+  stays zero = w
+  stays (suc k) = rw (c .next k) (c .each k .well-formed (stays k))
+
+  ledger-at : (k : ℕ) → view (state k) ≡ ticked k t room (view (state 0))
+  unfolding ticked
+  ledger-at zero = refl
+  ledger-at (suc k) =
+      ap view (c .next k) ∙ c .each k .ledger ∙ next-is-step (state k) t room (stays k)
+      ∙ ap (tickStep t room) (ledger-at k) ∙ sym (ticked-more k t room (view (state 0)))
+
+  pub silent-by : (most : ℕ) → QuietBy most t room (view (state 0)) → SilentBy most state out reply after
+  silent-by most (quietens k h a d) =
+      let e = rw (← ledger-at k) at a in
+      let f = rw (← ledger-at k) at d in
+      silent k h (quiet-answer (state k) t room (stays k) (out k) (reply k) (after k) (c .each k) e f)
+      (quiet-output (state k) t room (stays k) (out k) (reply k) (after k) (c .each k) e f)
+  silent-by most (stops k h a) =
+      spent k h (spent-answer (state k) t room (stays k) (out k) (reply k) (after k) (c .each k) (rw (← ledger-at k) at a))
+
+  pub silent-by-65 : Sized (state 0 .table .«key_lengths») (state 0 .table .«value_lengths») (state 0 .numbers) (state 0 .expiries)
+      → state 0 .header .«last_tick» .0 ≤ t → t ≤ maxTick → 114 ≤ room → SilentBy 64 state out reply after
+  silent-by-65 z h late enough = silent-by 64 (state-quiet (state 0) z w t room h late enough)

@@ -1,0 +1,86 @@
+-- `server::icanhaz::icanhaz` meets its contract: the checks over the columns come to the refusal of the call, and the snapshot that is written
+-- is that of the ledger. Assumes nothing.
+use mathlib.Core.Path.{_≡_, refl, sym, _∙_}
+use lib.ListN.{length}
+use borrow.Author.Needs.{needs}
+use denote.Ref.{now}
+use Rattle.answers.specs.Refusals.{verdict}
+use Rattle.answers.specs.declared.refusal.Verdict.the-variants.{Accept, Refuse}
+use Rattle.base.specs.Checks.{firstOf}
+use Rattle.server.proofs.IcanhazLaws.{requestChecks, snapshot-refused, snapshot-fits, snapshot-answered}
+use Rattle.server.proofs.icanhaz.icanhaz.Statement.{statement}
+use Rattle.server.proofs.icanhaz.icanhaz.Tie as tie
+
+-- how long the columns are
+values-long : (s : tie.Start) → length (s .args .t1 .table .values) ≡ 16384
+values-long s = search needs
+
+lengths-long : (s : tie.Start) → length (s .args .t1 .table .«value_lengths») ≡ 64
+lengths-long s = search needs
+
+numbers-long : (s : tie.Start) → length (s .args .t1 .numbers) ≡ 64
+numbers-long s = search needs
+
+expiries-long : (s : tie.Start) → length (s .args .t1 .expiries) ≡ 64
+expiries-long s = search needs
+
+stopped : (c : tie.After-r) → Refuse (c .r .given .0 .0) ≡ verdict (firstOf (requestChecks (c .before .before .before .before .before .before .before .before .before .before .before .before .before .args .t1) (now (c .before .before .before .before .before .before .before .before .before .before .before .before .before .args .msg)) (length (now (c .before .before .before .before .before .before .before .before .before .before .before .before .before .args .out)))))
+stopped c = sym (c .r .given .1) ∙ c .before .before .check-request .ensures
+
+all-well : (c : tie.After-enum-told) → Accept ≡ verdict (firstOf (requestChecks (c .before .before .before .before .before .before .before .before .before .before .before .before .before .args .t1) (now (c .before .before .before .before .before .before .before .before .before .before .before .before .before .args .msg)) (length (now (c .before .before .before .before .before .before .before .before .before .before .before .before .before .args .out)))))
+all-well c = sym (c .enum-told .given .1) ∙ c .before .before .check-request .ensures
+
+check-request-requires : tie.Need-check-request-requires
+check-request-requires c κs = search needs
+
+enum-known-r : tie.Need-enum-known-r
+enum-known-r c = search needs
+
+without-output-requires : tie.Need-without-output-requires
+without-output-requires c κs = search needs
+
+enum-told : tie.Need-enum-told
+enum-told c = search needs
+
+body-requires : tie.Need-body-requires
+body-requires c κs = search needs
+
+body-requires-2 : tie.Need-body-requires-2
+body-requires-2 c κs = search needs
+
+write-snapshot-requires : tie.Need-write-snapshot-requires
+write-snapshot-requires c κs =
+    let s = c .before .before .before .before .before .before .before .before .before .before .before .before .before .before .before .before .before .before .before .before .before .before .before in
+    snapshot-fits (s .args .t1) (values-long s) (lengths-long s) (numbers-long s) (expiries-long s) (now (s .args .msg)) (now (s .args .out)) (all-well (c .before .before .before .before .before .before .before .before .before .before)) (c .before .body .ensures) (c .body2 .ensures)
+
+with-output-requires : tie.Need-with-output-requires
+with-output-requires c κs = search needs
+
+returns : tie.Need-returns
+returns c =
+    let s = c .before .before .before .before .before .before .before .before .before .before .before .before .before .before .before in
+    snapshot-refused (s .args .t1) (values-long s) (lengths-long s) (numbers-long s) (expiries-long s) (now (s .args .msg)) (now (s .args .out)) _ _ (stopped (c .before .before)) refl (c .without-output .ensures)
+
+same-length : tie.Need-same-length
+same-length c = search needs
+
+returns-2 : tie.Need-returns-2
+returns-2 c =
+    let s = c .before .before .before .before .before .before .before .before .before .before .before .before .before .before .before .before .before .before .before .before .before .before .before .before .before .before .before in
+    snapshot-answered (s .args .t1) (values-long s) (lengths-long s) (numbers-long s) (expiries-long s) (now (s .args .msg)) (now (s .args .out)) (all-well (c .before .before .before .before .before .before .before .before .before .before .before .before .before .before)) (c .before .before .before .before .before .body .ensures) (c .before .before .before .before .body2 .ensures) _ (c .before .before .before .write-snapshot .ensures) refl (c .with-output .ensures)
+
+pub icanhaz-spec : {M : Type 1} → statement M
+icanhaz-spec =
+    tie.close
+    (tie.spec
+    check-request-requires
+    enum-known-r
+    without-output-requires
+    enum-told
+    body-requires
+    body-requires-2
+    write-snapshot-requires
+    with-output-requires
+    returns
+    same-length
+    returns-2)

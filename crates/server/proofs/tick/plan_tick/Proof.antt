@@ -1,0 +1,94 @@
+-- `server::tick::plan_tick` meets its contract: the state, the tick, and then what there is to do. Assumes nothing.
+use mathlib.Core.List.{List, _++_}
+use lib.ListN.{take}
+use denote.Ref.{now}
+use borrow.Author.Needs.{needs}
+use Rattle.answers.specs.declared.refusal.Refusal.{Refusal}
+use Rattle.base.specs.Checks.{Check}
+use Rattle.state.specs.Due.{dueFrom}
+use Rattle.state.specs.IllFormed.{illForms}
+use Rattle.state.specs.declared.due.Due.{Due}
+use Rattle.table.specs.Columns.{texts}
+use Rattle.server.specs.Plans.{deedAt}
+use Rattle.server.specs.Refusals.{tickChecks, deedChecks}
+use Rattle.server.proofs.TickLaws.{stopped-there, went-on, deed-known}
+use Rattle.server.proofs.tick.plan_tick.Statement.{statement}
+use Rattle.server.proofs.tick.plan_tick.Tie as tie
+
+abbrev forms : tie.Start → List (Check Refusal)
+forms s = illForms (now (s .args .keys)) (now (s .args .key-lengths)) (now (s .args .value-lengths)) (now (s .args .numbers)) (now (s .args .expiries)) (s .args .count) (s .args .header)
+
+abbrev times : tie.Start → List (Check Refusal)
+times s = tickChecks (s .args .header .«last_tick» .0) (s .args .tick .0)
+
+abbrev due : tie.Start → Due
+due s = dueFrom 0 (s .args .tick .0) (take (s .args .count) (now (s .args .expiries)))
+
+abbrev deeds : tie.Start → List (Check Refusal)
+deeds s = deedChecks (s .args .header .number .0) (deedAt (s .args .tick .0) (s .args .header .«last_published» .0) (texts 96 (s .args .count) (now (s .args .key-lengths)) (now (s .args .keys))) (due s)) (s .args .room)
+
+check-state-requires : tie.Need-check-state-requires
+check-state-requires c κs = tt
+
+enum-known-r : tie.Need-enum-known-r
+enum-known-r c = search needs
+
+enum-told : tie.Need-enum-told
+enum-told c = search needs
+
+check-tick-requires : tie.Need-check-tick-requires
+check-tick-requires c κs = tt
+
+enum-known-r-2 : tie.Need-enum-known-r-2
+enum-known-r-2 c = search needs
+
+enum-told-2 : tie.Need-enum-told-2
+enum-told-2 c = search needs
+
+plan-deed-requires : tie.Need-plan-deed-requires
+plan-deed-requires c κs =
+    let t = c .before .before in
+    let f = t .before in
+    let a = f .before .before in
+    let s = a .before .before in
+    deed-known (now (s .args .keys)) (now (s .args .key-lengths)) (now (s .args .value-lengths)) (now (s .args .numbers)) (now (s .args .expiries)) (s .args .count) (s .args .header) (s .args .tick .0) (s .args .room) (s .pre)
+    (a .check-state .ensures) (f .enum-told .given .1) (t .check-tick .ensures) (c .enum-told2 .given .1)
+
+returns : tie.Need-returns
+returns c =
+    let a = c .before .before .before in
+    let s = a .before .before in
+    stopped-there (forms s) (times s ++ deeds s) (s .args .tick .0) (s .args .header .«last_published» .0) (due s) (a .check-state .ensures) _ (c .before .r .given .1)
+
+returns-2 : tie.Need-returns-2
+returns-2 c =
+    let t = c .before .before .before in
+    let f = t .before in
+    let a = f .before .before in
+    let s = a .before .before in
+    went-on (forms s) (times s ++ deeds s) (s .args .tick .0) (s .args .header .«last_published» .0) (due s) (a .check-state .ensures) (f .enum-told .given .1)
+    (stopped-there (times s) (deeds s) (s .args .tick .0) (s .args .header .«last_published» .0) (due s) (t .check-tick .ensures) _ (c .before .r2 .given .1))
+
+returns-3 : tie.Need-returns-3
+returns-3 c =
+    let t = c .before .before .before in
+    let f = t .before in
+    let a = f .before .before in
+    let s = a .before .before in
+    went-on (forms s) (times s ++ deeds s) (s .args .tick .0) (s .args .header .«last_published» .0) (due s) (a .check-state .ensures) (f .enum-told .given .1)
+    (went-on (times s) (deeds s) (s .args .tick .0) (s .args .header .«last_published» .0) (due s) (t .check-tick .ensures) (c .before .enum-told2 .given .1) (c .plan-deed .ensures))
+
+pub plan-tick-spec : {M : Type 1} → statement M
+plan-tick-spec =
+    tie.close
+    (tie.spec
+    check-state-requires
+    enum-known-r
+    enum-told
+    check-tick-requires
+    enum-known-r-2
+    enum-told-2
+    plan-deed-requires
+    returns
+    returns-2
+    returns-3)

@@ -1,0 +1,50 @@
+-- What a call is found to come to before it acts: its refusal, or what it is to do.
+use Prim.Native.Nat.{ℕ, _-_}
+use mathlib.Core.Bool.{Bool, true, false, cond}
+use mathlib.Core.List.{List, []}
+use mathlib.Core.Option.{Option, none, some}
+use lib.Dec.{leb}
+use lib.ListN.{getD}
+use Rattle.answers.specs.declared.refusal.Refusal.{Refusal}
+use Rattle.base.specs.Bytes.{Bytes}
+use Rattle.server.specs.Deeds.{Deed, expire, beat, quiet}
+use Rattle.server.specs.declared.kvset.Plan.the-variants.{Refuse, Go}
+use Rattle.server.specs.declared.kvset.Plan.{Plan}
+use Rattle.server.specs.declared.tick.Step.the-variants.{Refuse as Stop, Expire, Beat, Quiet}
+use Rattle.server.specs.declared.tick.Step.{Step}
+use Rattle.state.specs.declared.due.Due.the-variants.{At as RowAt, Nothing as NoRow}
+use Rattle.state.specs.declared.due.Due.{Due}
+use Rattle.table.specs.declared.change.Change.the-variants.{Leave, Remove, Replace, Insert}
+use Rattle.table.specs.declared.change.Change.{Change}
+use Rattle.table.specs.declared.find.Found.the-variants.{At, Missing}
+use Rattle.table.specs.declared.find.Found.{Found}
+
+-- a KVSET: a change of a row
+abbrev pub planOf : Option Refusal → Change → Plan
+planOf none change = Go change
+planOf (some r) change = Refuse r
+
+-- whether a key was found
+abbrev pub isFound : Found → Bool
+isFound (At i) = true
+isFound (Missing i) = false
+
+-- whether a change would add a row to 64
+abbrev pub isOver : Change → ℕ → Bool
+isOver Leave n = false
+isOver (Remove i) n = false
+isOver (Replace i) n = false
+isOver (Insert i) n = leb 64 n
+
+-- ---- a Tick: the deed, by the place of the row that is due
+abbrev pub deedAt : ℕ → ℕ → List Bytes → Due → Deed
+deedAt t published keys (RowAt i e) = expire (getD keys i [])
+deedAt t published keys NoRow = cond (leb 1000 (t - published)) beat quiet
+
+abbrev pub stepAt : ℕ → ℕ → Due → Step
+stepAt t published (RowAt i e) = Expire i
+stepAt t published NoRow = cond (leb 1000 (t - published)) Beat Quiet
+
+abbrev pub stepOf : Option Refusal → ℕ → ℕ → Due → Step
+stepOf none t published due = stepAt t published due
+stepOf (some r) t published due = Stop r

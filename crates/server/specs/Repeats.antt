@@ -1,0 +1,42 @@
+-- A Tick that is repeated at the same tick, with no call between: what it makes of a ledger, and by when it has nothing left to do.
+use Prim.Native.Nat.{ℕ, zero, suc, _≤_}
+use mathlib.Core.Option.{none, some}
+use mathlib.Core.Path.{_≡_}
+use Rattle.answers.specs.Answers.{answer}
+use Rattle.answers.specs.declared.answer.Kind.the-variants.{Refused, Nothing}
+use Rattle.answers.specs.declared.refusal.Refusal.the-variants.{Exhausted}
+use Rattle.base.specs.Bytes.{Bytes}
+use Rattle.base.specs.Checks.{firstOf}
+use Rattle.server.specs.Calls.{tick, ifAccepted}
+use Rattle.server.specs.Deeds.{quiet, deed}
+use Rattle.server.specs.Next.{acceptedNext}
+use Rattle.server.specs.Promises.{Answered}
+use Rattle.server.specs.Refusals.{callChecks}
+use Rattle.server.specs.declared.Reply.{Reply}
+use Rattle.state.specs.Views.{Entry, Ledger, ledgerOf}
+use Rattle.state.specs.declared.Server.{Server}
+
+-- what a Tick at tick t with `room` bytes of output makes of a ledger
+unfoldable pub tickStep : ℕ → ℕ → Ledger Entry → Ledger Entry
+tickStep t room v = ifAccepted (firstOf (callChecks (ledgerOf v) (tick t room))) (acceptedNext v (tick t room)) v
+
+-- what k of them make of it
+unfoldable pub ticked : ℕ → ℕ → ℕ → Ledger Entry → Ledger Entry
+ticked zero t room v = v
+ticked (suc k) t room v = ticked k t room (tickStep t room v)
+
+-- after at most so many of them the next one is accepted and has nothing to do, or is refused for want of a number
+pub data QuietBy (most t room : ℕ) (v : Ledger Entry) : Type 0 where
+  quietens : (k : ℕ) → k ≤ most → firstOf (callChecks (ledgerOf (ticked k t room v)) (tick t room)) ≡ none
+      → deed (ledgerOf (ticked k t room v)) t ≡ quiet → QuietBy most t room v
+  stops : (k : ℕ) → k ≤ most → firstOf (callChecks (ledgerOf (ticked k t room v)) (tick t room)) ≡ some Exhausted → QuietBy most t room v
+
+-- ---- the same for the calls on a server: the state that each is given, its output, its reply, and the output after it
+pub record Ticking (t room : ℕ) (state : ℕ → Server) (out : ℕ → Bytes) (reply : ℕ → Reply) (after : ℕ → Bytes) : Type 0 where
+  pub each : (k : ℕ) → Answered (state k) (tick t room) (out k) (reply k) (after k)
+  pub next : (k : ℕ) → state (suc k) ≡ reply k .state
+
+-- after at most so many calls the next one answers Nothing and leaves its output, or is refused for want of a number
+pub data SilentBy (most : ℕ) (state : ℕ → Server) (out : ℕ → Bytes) (reply : ℕ → Reply) (after : ℕ → Bytes) : Type 0 where
+  silent : (k : ℕ) → k ≤ most → reply k .answer ≡ answer (Nothing (state k .header .number)) 0 → after k ≡ out k → SilentBy most state out reply after
+  spent : (k : ℕ) → k ≤ most → reply k .answer ≡ answer (Refused Exhausted (state k .header .number)) 0 → SilentBy most state out reply after
