@@ -109,10 +109,12 @@ pub fn icanhaz(s: Server, msg: &[u8], out: &mut [u8]) -> Reply
         msg,
         out.len(),
     ) {
-        Verdict::Refuse(r) => Reply {
-            state: s,
-            answer: answer::without_output(Kind::Refused(r, number)),
-        },
+        Verdict::Refuse(r) => {
+            return Reply {
+                state: s,
+                answer: answer::without_output(Kind::Refused(r, number)),
+            };
+        }
         Verdict::Accept => {
             let written = snapshot::write_snapshot(
                 out,

@@ -175,10 +175,12 @@ pub fn kvset(mut s: Server, msg: &[u8], tick: Tick, out: &mut [u8]) -> Reply
         tick,
         out.len(),
     ) {
-        Plan::Refuse(r) => Reply {
-            state: s,
-            answer: answer::without_output(Kind::Refused(r, last)),
-        },
+        Plan::Refuse(r) => {
+            return Reply {
+                state: s,
+                answer: answer::without_output(Kind::Refused(r, last)),
+            };
+        }
         Plan::Go(change) => {
             let key = read::body(msg, HEAD);
             let properties = read::body(msg, PROPERTIES);

@@ -136,10 +136,12 @@ pub fn tick(mut s: Server, tick: Tick, out: &mut [u8]) -> Reply
         tick,
         out.len(),
     ) {
-        Step::Refuse(r) => Reply {
-            state: s,
-            answer: answer::without_output(Kind::Refused(r, last)),
-        },
+        Step::Refuse(r) => {
+            return Reply {
+                state: s,
+                answer: answer::without_output(Kind::Refused(r, last)),
+            };
+        }
         Step::Expire(i) => {
             let number = time::next_number(last);
             let key = text::key_at(&s.table.keys, &s.table.key_lengths, i);
@@ -160,10 +162,10 @@ pub fn tick(mut s: Server, tick: Tick, out: &mut [u8]) -> Reply
                 last_published: tick,
             };
             s.header = after;
-            Reply {
+            return Reply {
                 state: s,
                 answer: answer::with_output(Kind::Wrote(number), written),
-            }
+            };
         }
         Step::Beat => {
             let written = write::write_hugz(out, 0);
@@ -173,10 +175,10 @@ pub fn tick(mut s: Server, tick: Tick, out: &mut [u8]) -> Reply
                 last_published: tick,
             };
             s.header = after;
-            Reply {
+            return Reply {
                 state: s,
                 answer: answer::with_output(Kind::Wrote(last), written),
-            }
+            };
         }
         Step::Quiet => {
             let after = Header {

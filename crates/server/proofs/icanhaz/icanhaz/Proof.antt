@@ -76,11 +76,11 @@ icanhaz-spec =
     check-request-requires
     enum-known-r
     without-output-requires
+    returns
     enum-told
     body-requires
     body-requires-2
     write-snapshot-requires
     with-output-requires
-    returns
     same-length
     returns-2)

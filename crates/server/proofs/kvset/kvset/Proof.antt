@@ -184,6 +184,7 @@ kvset-spec =
     plan-kvset-requires
     enum-known-r
     without-output-requires
+    returns
     enum-known-change
     body-requires
     body-requires-2
@@ -203,6 +204,5 @@ kvset-spec =
     body-requires-4
     write-kvpub-requires
     with-output-requires
-    returns
     same-length
     returns-2)

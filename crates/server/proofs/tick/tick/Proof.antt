@@ -175,6 +175,7 @@ tick-spec =
     plan-tick-requires
     enum-known-r
     without-output-requires
+    returns
     enum-known-i
     next-number-requires
     key-at-requires
@@ -190,14 +191,13 @@ tick-spec =
     change-numbers-requires-4
     count-after-requires
     with-output-requires
+    same-length
+    returns-2
     enum-told
     write-hugz-requires
     with-output-requires-2
-    enum-told-2
-    without-output-requires-2
-    returns
-    same-length
-    returns-2
     same-length-2
     returns-3
+    enum-told-2
+    without-output-requires-2
     returns-4)
