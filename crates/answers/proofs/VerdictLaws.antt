@@ -19,10 +19,11 @@ pub refused : (r : Refusal) (x : Option Refusal) → Refuse r ≡ verdict x → 
 refused r none e = absurd (let z : _≡_ {A = ℕ} 0 1 = cc in omega arith)
 refused r (some s) e = let z : s ≡ r = cc in ap some z
 
--- checks behind a table that came to a verdict
-module _ (a b : List (Check Refusal)) where
-  pub past-accepted : Accept ≡ verdict (firstOf a) → firstOf (a ++ b) ≡ firstOf b
-  past-accepted e = pass-all a b (accepted (firstOf a) e)
+-- checks behind a table that came to a verdict: they decide, or do not count
+pub past-accepted : (a b : List (Check Refusal)) → Accept ≡ verdict (firstOf a) → firstOf (a ++ b) ≡ firstOf b
+past-accepted a b e = pass-all a b (accepted (firstOf a) e)
 
-  pub past-refused : (r : Refusal) → Refuse r ≡ verdict (firstOf a) → Refuse r ≡ verdict (firstOf (a ++ b))
-  past-refused r e = rw (stop-all a b r (refused r (firstOf a) e))
+-- f is what a function makes of the first refusal
+pub past-refused : {A : Type 0} (f : Option Refusal → A) (a b : List (Check Refusal)) (r : Refusal) → Refuse r ≡ verdict (firstOf a)
+    → f (some r) ≡ f (firstOf (a ++ b))
+past-refused f a b r e = rw (stop-all a b r (refused r (firstOf a) e))

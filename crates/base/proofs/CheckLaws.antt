@@ -1,12 +1,16 @@
 -- Laws of a table of checks. Assumes nothing.
 use Prim.Native.Nat.{ℕ, zero, suc}
 use native.Mathlib.Omega.{arith}
-use mathlib.Core.Bool.{Bool, true, false, cond}
+use mathlib.Core.Bool.{Bool, true, false, cond, not}
 use mathlib.Core.List.{List, [], _∷_, _++_}
 use mathlib.Core.Option.{Option, none, some}
 use mathlib.Core.Path.{_≡_, refl, sym, _∙_}
 use Rattle.base.specs.Checks.Check.{when}
 use Rattle.base.specs.Checks.{Check, firstOf}
+
+-- a test that a function made: r is its answer
+pub asked : {r s t : Bool} → r ≡ s → not r ≡ t → not s ≡ t
+asked e h = rw (← e) h
 
 -- x is what f makes of the first refusal of the checks that are left: what a function that makes them one by one keeps
 pub record Left {R A : Type 0} (f : Option R → A) (x : A) (checks : List (Check R)) : Type 0 where
@@ -62,3 +66,11 @@ module _ {R : Type 0} where
   stop-all [] b r e = none-not-some r e
   stop-all (when true s ∷ a) b r e = e
   stop-all (when false s ∷ a) b r e = stop-all a b r e
+
+  -- two tables, one behind the other, that let all pass: both do
+  pub both-passed : (a b : List (Check R)) → firstOf (a ++ b) ≡ none → (firstOf a ≡ none) × (firstOf b ≡ none)
+  both-passed a b e = go (firstOf a) refl
+    where
+      go : (t : Option R) → firstOf a ≡ t → (firstOf a ≡ none) × (firstOf b ≡ none)
+      go none f = (f, sym (pass-all a b f) ∙ e)
+      go (some r) f = none-not-some r (sym e ∙ stop-all a b r f)

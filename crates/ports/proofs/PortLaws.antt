@@ -70,7 +70,7 @@ module _ (n : ℕ) (msg : Bytes) (e : Accept ≡ verdict (firstOf (framed n msg)
 
 -- of five frames: they are the fields
 module _ (msg : Bytes) (e : Accept ≡ verdict (firstOf (framed 5 msg))) where
-  fields-are : bodiesOf msg ≡ fieldsOf msg
+  pub fields-are : bodiesOf msg ≡ fieldsOf msg
   fields-are =
       let at : (k : ℕ) → k < 5 → bodyAt k msg ≡ frameAt k msg = frame-is 5 msg e in
       rw (at 0 (omega arith), at 1 (omega arith), at 2 (omega arith), at 3 (omega arith), at 4 (omega arith))
@@ -78,10 +78,6 @@ module _ (msg : Bytes) (e : Accept ≡ verdict (firstOf (framed 5 msg))) where
   -- what the checks of the bodies come to is what those of the port come to
   pub by-fields : (checks : Fields → List (Check Refusal)) → verdict (firstOf (checks (bodiesOf msg))) ≡ verdict (firstOf (framed 5 msg ++ checks (fieldsOf msg)))
   by-fields checks = rw (fields-are, past-accepted (framed 5 msg) (checks (fieldsOf msg)) e)
-
--- a test that a function made: r is its answer
-pub asked : {r s t : Bool} → r ≡ s → not r ≡ t → not s ≡ t
-asked e h = rw (← e) h
 
 -- ---- tests of a part of the message, x, that the table makes of its body, y
 module _ {x y : Bytes} (e : x ≡ y) where

@@ -4,19 +4,17 @@ use native.Mathlib.Omega.{arith}
 use mathlib.Core.Bool.{Bool, true, false, cond, _&&_}
 use mathlib.Core.List.{List, [], _∷_}
 use mathlib.Core.Option.{Option, none, some}
-use mathlib.Core.Path.{_≡_, refl, sym, _∙_}
+use mathlib.Core.Path.{_≡_, refl}
 use lib.Dec.{leb}
 use lib.ListN.{length}
 use borrow.Author.Tests.{leb-true}
-use Rattle.base.proofs.ByteLaws.{and-right}
 use Rattle.base.specs.Bytes.{Bytes, every}
 use Rattle.properties.specs.Decimals.{isDigit, decimalFrom, decimalOf}
 use Rattle.properties.specs.Properties.{Property, secondsIn, lasting, lifetimeOf, judged, ttls, propertiesIn, propertiesOf, isGood}
 use Rattle.properties.specs.declared.decimal.Decimal.the-variants.{Is, Wrong}
 use Rattle.properties.specs.declared.decimal.Decimal.{Decimal}
-use Rattle.properties.specs.declared.read.Lifetime.the-variants.{Unlimited, Seconds}
+use Rattle.properties.specs.declared.read.Lifetime.the-variants.{Seconds}
 use Rattle.properties.specs.declared.read.Properties.the-variants.{Good, Malformed}
-use Rattle.properties.specs.declared.read.Properties.{Properties}
 
 decimal-most : (digits most : ℕ) (s : Bytes) (n : ℕ) → decimalOf digits most s ≡ Is n → n ≤ most
 unfolding decimalOf

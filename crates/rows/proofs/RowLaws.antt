@@ -1,19 +1,22 @@
--- Laws of maps as rows in key order: what setting and removing do to every key, that keys stay sorted, the part under a subtree.
--- Stated once over what a row holds. Assumes nothing.
-use Prim.Native.Nat.{ℕ, zero, suc, _+_, _≤_, _<_}
+-- Laws of maps as rows in key order: that keys stay sorted; what setting and removing do to what is held under every key, to the rows whose keys
+-- pass a test and to the number of rows; and that all this goes with a change of what rows hold. Stated once over what a row holds.
+-- Assumes nothing.
+use Prim.Native.Nat.{suc, _≤_}
 use native.Mathlib.Omega.{arith}
-use mathlib.Core.Bool.{Bool, true, false, cond, _&&_, _||_}
+use mathlib.Core.Bool.{Bool, true, false, cond, _||_}
 use mathlib.Core.List.{List, [], _∷_, _++_, append-assoc, append-nil}
-use mathlib.Core.Path.{_≡_, refl, sym, ap, _∙_, subst}
+use mathlib.Core.Option.{Option, none, some}
+use mathlib.Core.Path.{_≡_, refl, sym, ap, _∙_}
 use lib.ListN.{length}
 use Rattle.base.proofs.ByteLaws.{and-left, and-right, same-eq, same-refl}
-use Rattle.base.specs.Bytes.{Bytes, same}
+use Rattle.base.specs.Bytes.{Bytes, same, every}
 use Rattle.names.proofs.OrderLaws.{order-self, order-flip, order-equal, order-trans, flipped}
 use Rattle.names.specs.Order.{orderOf}
 use Rattle.names.specs.declared.order.Order.the-variants.{Less, Equal, Greater}
 use Rattle.names.specs.declared.order.Order.{Order}
-use Rattle.rows.specs.Rows.{Rows, setRow, removeRow, place, part, keep, hasKey, Above, Sorted, mapRows, rising, isLess, keysIn}
+use Rattle.rows.specs.Rows.{Rows, setRow, removeRow, place, part, keep, hasKey, heldUnder, Above, Sorted, mapRows, rising, isLess, keysIn}
 
+-- ---- the order of two keys
 abbrev isEqual : Order → Bool
 isEqual Less = false
 isEqual Equal = true
@@ -36,11 +39,15 @@ same-by-order k j {o} e = go o e (same k j) refl
     go Greater f false g = refl
 
 module _ {A : Type 0} where
+  -- ---- keys that are above one, and sorted rows: setting, removing and keeping a part leave them so
   pub above-trans : (j k : Bytes) (l : Rows A) → orderOf j k ≡ Less → Above k l → Above j l
   above-trans j k [] e h = tt
   above-trans j k (r ∷ l) e h = (order-trans j k (r .0) e (h .0), above-trans j k l e (h .1))
 
-  pub above-place : (o : Order) (j : Bytes) (new r : Bytes × A) (l rest : Rows A) → orderOf j (new .0) ≡ Less
+  pub above-equal : (j k : Bytes) (l : Rows A) → orderOf j k ≡ Equal → Above k l → Above j l
+  above-equal j k l e h = rw (order-equal j k e) h
+
+  above-place : (o : Order) (j : Bytes) (new r : Bytes × A) (l rest : Rows A) → orderOf j (new .0) ≡ Less
       → Above j (r ∷ l) → Above j rest → Above j (place o new r l rest)
   above-place Less j new r l rest e h i = (e, h)
   above-place Equal j new r l rest e h i = (e, h .1)
@@ -58,7 +65,7 @@ module _ {A : Type 0} where
     where
       go : (o : Order) → orderOf k (r .0) ≡ o → Sorted (setRow k a l) → Sorted (place o (k, a) r l (setRow k a l))
       go Less e s = ((e, above-trans k (r .0) l e (h .0)), h)
-      go Equal e s = (subst (λ (j : Bytes). Above j l) (sym (order-equal k (r .0) e)) (h .0), h .1)
+      go Equal e s = (above-equal k (r .0) l e (h .0), h .1)
       go Greater e s = (above-set (r .0) k a l (order-flip k (r .0) ∙ ap flipped e) (h .0), s)
 
   pub above-remove : (j k : Bytes) (l : Rows A) → Above j l → Above j (removeRow k l)
@@ -99,7 +106,102 @@ module _ {A : Type 0} where
       go true i = (above-keep p (r .0) l (h .0), i)
       go false i = i
 
-  -- below all: set puts in front, remove does nothing
+  -- sorted rows are those whose keys rise, each above the one before
+  pub sorted-rising : (l : Rows A) → Sorted l → rising (keysIn l) ≡ true
+  unfolding rising keysIn
+  sorted-rising [] h = refl
+  sorted-rising (r ∷ []) h = refl
+  sorted-rising (r ∷ q ∷ l) h = rw (h .0 .0) (sorted-rising (q ∷ l) (h .1))
+
+  pub rising-sorted : (l : Rows A) → rising (keysIn l) ≡ true → Sorted l
+  unfolding rising keysIn
+  rising-sorted [] e = tt
+  rising-sorted (r ∷ []) e = (tt, tt)
+  rising-sorted (r ∷ q ∷ l) e =
+      let h = less-is (orderOf (r .0) (q .0)) (and-left (isLess (orderOf (r .0) (q .0))) (rising (q .0 ∷ keysIn l)) e) in
+      let s = rising-sorted (q ∷ l) (and-right (isLess (orderOf (r .0) (q .0))) (rising (q .0 ∷ keysIn l)) e) in
+      ((h, above-trans (r .0) (q .0) l h (s .0)), s)
+
+  -- ---- what setting and removing do to what is held under every key
+  abbrev pub isSome : Option A → Bool
+  isSome none = false
+  isSome (some a) = true
+
+  pub held-has : (k : Bytes) (l : Rows A) → hasKey k l ≡ isSome (heldUnder k l)
+  unfolding hasKey heldUnder
+  held-has k [] = refl
+  held-has k (r ∷ l) = go (same k (r .0)) (held-has k l)
+    where
+      go : (b : Bool) → hasKey k l ≡ isSome (heldUnder k l) → (b || hasKey k l) ≡ isSome (cond b (some (r .1)) (heldUnder k l))
+      go true ih = refl
+      go false ih = ih
+
+  pub above-held : (k : Bytes) (l : Rows A) → Above k l → heldUnder k l ≡ none
+  unfolding heldUnder
+  above-held k [] h = refl
+  above-held k (r ∷ l) h = rw (same-by-order k (r .0) (h .0)) (above-held k l (h .1))
+
+  pub above-hasKey : (k : Bytes) (l : Rows A) → Above k l → hasKey k l ≡ false
+  above-hasKey k l h = held-has k l ∙ ap isSome (above-held k l h)
+
+  pub held-set-same : (k : Bytes) (a : A) (l : Rows A) → heldUnder k (setRow k a l) ≡ some a
+  unfolding setRow heldUnder
+  held-set-same k a [] = rw (same-refl k)
+  held-set-same k a (r ∷ l) = go (orderOf k (r .0)) refl (held-set-same k a l)
+    where
+      go : (o : Order) → orderOf k (r .0) ≡ o → heldUnder k (setRow k a l) ≡ some a → heldUnder k (place o (k, a) r l (setRow k a l)) ≡ some a
+      go Less e ih = rw (same-refl k)
+      go Equal e ih = rw (same-refl k)
+      go Greater e ih = rw (same-by-order k (r .0) e) ih
+
+  pub held-set-other : (j k : Bytes) (a : A) (l : Rows A) → same j k ≡ false → heldUnder j (setRow k a l) ≡ heldUnder j l
+  unfolding setRow heldUnder
+  held-set-other j k a [] e = rw e
+  held-set-other j k a (r ∷ l) e = go (orderOf k (r .0)) refl (held-set-other j k a l e)
+    where
+      go : (o : Order) → orderOf k (r .0) ≡ o → heldUnder j (setRow k a l) ≡ heldUnder j l
+          → heldUnder j (place o (k, a) r l (setRow k a l)) ≡ cond (same j (r .0)) (some (r .1)) (heldUnder j l)
+      go Less f ih = rw e
+      go Equal f ih = rw (e, sym (ap (same j) (order-equal k (r .0) f)) ∙ e)
+      go Greater f ih = rw ih
+
+  pub held-remove-same : (k : Bytes) (l : Rows A) → Sorted l → heldUnder k (removeRow k l) ≡ none
+  unfolding removeRow heldUnder
+  held-remove-same k [] h = refl
+  held-remove-same k (r ∷ l) h = go (orderOf k (r .0)) refl (held-remove-same k l (h .1))
+    where
+      go : (o : Order) → orderOf k (r .0) ≡ o → heldUnder k (removeRow k l) ≡ none → heldUnder k (part o r l (removeRow k l)) ≡ none
+      go Less e ih = above-held k (r ∷ l) (e, above-trans k (r .0) l e (h .0))
+      go Equal e ih = above-held k l (above-equal k (r .0) l e (h .0))
+      go Greater e ih = rw (same-by-order k (r .0) e) ih
+
+  pub held-remove-other : (j k : Bytes) (l : Rows A) → same j k ≡ false → heldUnder j (removeRow k l) ≡ heldUnder j l
+  unfolding removeRow heldUnder
+  held-remove-other j k [] e = refl
+  held-remove-other j k (r ∷ l) e = go (orderOf k (r .0)) refl (held-remove-other j k l e)
+    where
+      go : (o : Order) → orderOf k (r .0) ≡ o → heldUnder j (removeRow k l) ≡ heldUnder j l
+          → heldUnder j (part o r l (removeRow k l)) ≡ cond (same j (r .0)) (some (r .1)) (heldUnder j l)
+      go Less f ih = refl
+      go Equal f ih = rw (sym (ap (same j) (order-equal k (r .0) f)) ∙ e)
+      go Greater f ih = rw ih
+
+  -- what holds of every key holds of those that are left
+  pub every-remove : (test : Bytes → Bool) (k : Bytes) (l : Rows A) → every test (keysIn l) ≡ true → every test (keysIn (removeRow k l)) ≡ true
+  unfolding every keysIn removeRow
+  every-remove test k [] e = refl
+  every-remove test k (r ∷ l) e =
+      let a = and-left (test (r .0)) (every test (keysIn l)) e in
+      let b = and-right (test (r .0)) (every test (keysIn l)) e in
+      go a b (orderOf k (r .0)) (every-remove test k l b)
+    where
+      go : test (r .0) ≡ true → every test (keysIn l) ≡ true → (o : Order) → every test (keysIn (removeRow k l)) ≡ true
+          → every test (keysIn (part o r l (removeRow k l))) ≡ true
+      go a b Less ih = rw (a, b)
+      go a b Equal ih = b
+      go a b Greater ih = rw (a, ih)
+
+  -- ---- a key below all: setting it puts a row in front, removing it does nothing
   pub set-least : (k : Bytes) (a : A) (l : Rows A) → Above k l → setRow k a l ≡ (k, a) ∷ l
   unfolding setRow
   set-least k a [] h = refl
@@ -110,7 +212,19 @@ module _ {A : Type 0} where
   remove-least k [] h = refl
   remove-least k (r ∷ l) h = rw (h .0)
 
-  -- inside the part
+  -- setting after removing is setting
+  pub set-remove : (k : Bytes) (a : A) (l : Rows A) → Sorted l → setRow k a (removeRow k l) ≡ setRow k a l
+  unfolding setRow removeRow
+  set-remove k a [] h = refl
+  set-remove k a (r ∷ l) h = go (orderOf k (r .0)) refl (set-remove k a l (h .1))
+    where
+      go : (o : Order) → orderOf k (r .0) ≡ o → setRow k a (removeRow k l) ≡ setRow k a l
+          → setRow k a (part o r l (removeRow k l)) ≡ place o (k, a) r l (setRow k a l)
+      go Less f ih = rw f
+      go Equal f ih = set-least k a l (above-equal k (r .0) l f (h .0))
+      go Greater f ih = rw f (ap (λ (t : Rows A). r ∷ t) ih)
+
+  -- ---- the rows whose keys pass a test: setting and removing go into them where the key passes, and do not touch them where it does not
   pub keep-set-in : (p : Bytes → Bool) (k : Bytes) (a : A) (l : Rows A) → p k ≡ true → Sorted l → keep p (setRow k a l) ≡ setRow k a (keep p l)
   unfolding keep setRow
   keep-set-in p k a [] e h = rw e
@@ -146,7 +260,7 @@ module _ {A : Type 0} where
       go Less f true g ih = rw (g, f)
       go Less f false g ih = rw g (sym (remove-least k (keep p l) (above-keep p k l (above-trans k (r .0) l f (h .0)))))
       go Equal f true g ih = rw f
-      go Equal f false g ih = sym (remove-least k (keep p l) (above-keep p k l (subst (λ (j : Bytes). Above j l) (sym (order-equal k (r .0) f)) (h .0))))
+      go Equal f false g ih = sym (remove-least k (keep p l) (above-keep p k l (above-equal k (r .0) l f (h .0))))
       go Greater f true g ih = rw (g, f) (ap (λ (t : Rows A). r ∷ t) ih)
       go Greater f false g ih = rw g ih
 
@@ -161,19 +275,7 @@ module _ {A : Type 0} where
       go Equal f ih = rw (sym (ap p (order-equal k (r .0) f)) ∙ e)
       go Greater f ih = rw ih
 
-  -- setting after removing is setting
-  pub set-remove : (k : Bytes) (a : A) (l : Rows A) → Sorted l → setRow k a (removeRow k l) ≡ setRow k a l
-  unfolding setRow removeRow
-  set-remove k a [] h = refl
-  set-remove k a (r ∷ l) h = go (orderOf k (r .0)) refl (set-remove k a l (h .1))
-    where
-      go : (o : Order) → orderOf k (r .0) ≡ o → setRow k a (removeRow k l) ≡ setRow k a l
-          → setRow k a (part o r l (removeRow k l)) ≡ place o (k, a) r l (setRow k a l)
-      go Less f ih = rw f
-      go Equal f ih = set-least k a l (subst (λ (j : Bytes). Above j l) (sym (order-equal k (r .0) f)) (h .0))
-      go Greater f ih = rw f (ap (λ (t : Rows A). r ∷ t) ih)
-
-  -- a part of a part
+  -- a test of what passed a weaker one
   pub keep-keep : (p q : Bytes → Bool) (l : Rows A) → ((k : Bytes) → q k ≡ true → p k ≡ true) → keep q (keep p l) ≡ keep q l
   unfolding keep
   keep-keep p q [] h = refl
@@ -186,68 +288,7 @@ module _ {A : Type 0} where
       go false e true f ih = cc (h (r .0) f)
       go false e false f ih = ih
 
-  -- rows put in one after another, in order
-  unfoldable pub setAll : Rows A → Rows A → Rows A
-  setAll acc [] = acc
-  setAll acc (r ∷ l) = setAll (setRow (r .0) (r .1) acc) l
-
-  -- every key of the list is below k
-  abbrev pub Below : Rows A → Bytes → Type 0
-  Below [] k = Unit {0}
-  Below (r ∷ l) k = (orderOf (r .0) k ≡ Less) × Below l k
-
-  pub set-last : (k : Bytes) (a : A) (l : Rows A) → Below l k → setRow k a l ≡ l ++ ((k, a) ∷ [])
-  unfolding setRow
-  set-last k a [] h = refl
-  set-last k a (r ∷ l) h = rw (order-flip (r .0) k ∙ ap flipped (h .0)) (ap (λ (t : Rows A). r ∷ t) (set-last k a l (h .1)))
-
-  -- every key of the first list is below every key of the second
-  abbrev pub Cross : Rows A → Rows A → Type 0
-  Cross acc [] = Unit {0}
-  Cross acc (r ∷ l) = Below acc (r .0) × Cross acc l
-
-  below-snoc : (acc : Rows A) (r : Bytes × A) (k : Bytes) → Below acc k → orderOf (r .0) k ≡ Less → Below (acc ++ (r ∷ [])) k
-  below-snoc [] r k h e = (e, tt)
-  below-snoc (q ∷ acc) r k h e = (h .0, below-snoc acc r k (h .1) e)
-
-  cross-snoc : (acc : Rows A) (r : Bytes × A) (l : Rows A) → Cross acc l → Above (r .0) l → Cross (acc ++ (r ∷ [])) l
-  cross-snoc acc r [] h a = tt
-  cross-snoc acc r (q ∷ l) h a = (below-snoc acc r (q .0) (h .0) (a .0), cross-snoc acc r l (h .1) (a .1))
-
-  cross-nil : (l : Rows A) → Cross [] l
-  cross-nil [] = tt
-  cross-nil (r ∷ l) = (tt, cross-nil l)
-
-  set-all : (acc l : Rows A) → Cross acc l → Sorted l → setAll acc l ≡ acc ++ l
-  unfolding setAll
-  set-all acc [] h s = sym (append-nil acc)
-  set-all acc (r ∷ l) h s =
-      rw (set-last (r .0) (r .1) acc (h .0)) (set-all (acc ++ (r ∷ [])) l (cross-snoc acc r l (h .1) (s .0)) (s .1) ∙ append-assoc acc (r ∷ []) l)
-
-  -- putting a map's rows in, one after another in key order, gives the map
-  pub set-all-nil : (l : Rows A) → Sorted l → setAll [] l ≡ l
-  set-all-nil l s = set-all [] l (cross-nil l) s
-
-  pub sorted-rising : (l : Rows A) → Sorted l → rising (keysIn l) ≡ true
-  unfolding rising keysIn
-  sorted-rising [] h = refl
-  sorted-rising (r ∷ []) h = refl
-  sorted-rising (r ∷ q ∷ l) h = rw (h .0 .0) (sorted-rising (q ∷ l) (h .1))
-
-  pub rising-sorted : (l : Rows A) → rising (keysIn l) ≡ true → Sorted l
-  unfolding rising keysIn
-  rising-sorted [] e = tt
-  rising-sorted (r ∷ []) e = (tt, tt)
-  rising-sorted (r ∷ q ∷ l) e =
-      let h = less-is (orderOf (r .0) (q .0)) (and-left (isLess (orderOf (r .0) (q .0))) (rising (q .0 ∷ keysIn l)) e) in
-      let s = rising-sorted (q ∷ l) (and-right (isLess (orderOf (r .0) (q .0))) (rising (q .0 ∷ keysIn l)) e) in
-      ((h, above-trans (r .0) (q .0) l h (s .0)), s)
-
-  pub above-hasKey : (k : Bytes) (l : Rows A) → Above k l → hasKey k l ≡ false
-  unfolding hasKey
-  above-hasKey k [] h = refl
-  above-hasKey k (r ∷ l) h = rw (same-by-order k (r .0) (h .0)) (above-hasKey k l (h .1))
-
+  -- ---- how many rows there are
   pub length-set : (k : Bytes) (a : A) (l : Rows A) → Sorted l → length (setRow k a l) ≡ cond (hasKey k l) (length l) (suc (length l))
   unfolding setRow hasKey
   length-set k a [] h = refl
@@ -282,28 +323,49 @@ module _ {A : Type 0} where
       go true ih = omega arith
       go false ih = omega arith
 
-  -- ---- the same by places: what a program does with an index. The list is split where k stands or would stand.
-  pub set-split-held : (k : Bytes) (a b : A) (l m : Rows A) → Below l k → setRow k a (l ++ (k, b) ∷ m) ≡ l ++ (k, a) ∷ m
+  -- ---- rows put in one after another, in order
+  unfoldable pub setAll : Rows A → Rows A → Rows A
+  setAll acc [] = acc
+  setAll acc (r ∷ l) = setAll (setRow (r .0) (r .1) acc) l
+
+  -- every key of the list is below k
+  abbrev pub Below : Rows A → Bytes → Type 0
+  Below [] k = Unit {0}
+  Below (r ∷ l) k = (orderOf (r .0) k ≡ Less) × Below l k
+
+  pub set-last : (k : Bytes) (a : A) (l : Rows A) → Below l k → setRow k a l ≡ l ++ ((k, a) ∷ [])
   unfolding setRow
-  set-split-held k a b [] m h = rw (order-self k)
-  set-split-held k a b (r ∷ l) m h = rw (order-flip (r .0) k ∙ ap flipped (h .0)) (ap (λ (t : Rows A). r ∷ t) (set-split-held k a b l m (h .1)))
+  set-last k a [] h = refl
+  set-last k a (r ∷ l) h = rw (order-flip (r .0) k ∙ ap flipped (h .0)) (ap (λ (t : Rows A). r ∷ t) (set-last k a l (h .1)))
 
-  pub set-split-new : (k : Bytes) (a : A) (l m : Rows A) → Below l k → Above k m → setRow k a (l ++ m) ≡ l ++ (k, a) ∷ m
-  unfolding setRow
-  set-split-new k a [] m h i = set-least k a m i
-  set-split-new k a (r ∷ l) m h i = rw (order-flip (r .0) k ∙ ap flipped (h .0)) (ap (λ (t : Rows A). r ∷ t) (set-split-new k a l m (h .1) i))
+  -- every key of the first list is below every key of the second
+  abbrev Cross : Rows A → Rows A → Type 0
+  Cross acc [] = Unit {0}
+  Cross acc (r ∷ l) = Below acc (r .0) × Cross acc l
 
-  pub remove-split-held : (k : Bytes) (b : A) (l m : Rows A) → Below l k → removeRow k (l ++ (k, b) ∷ m) ≡ l ++ m
-  unfolding removeRow
-  remove-split-held k b [] m h = rw (order-self k)
-  remove-split-held k b (r ∷ l) m h = rw (order-flip (r .0) k ∙ ap flipped (h .0)) (ap (λ (t : Rows A). r ∷ t) (remove-split-held k b l m (h .1)))
+  below-snoc : (acc : Rows A) (r : Bytes × A) (k : Bytes) → Below acc k → orderOf (r .0) k ≡ Less → Below (acc ++ (r ∷ [])) k
+  below-snoc [] r k h e = (e, tt)
+  below-snoc (q ∷ acc) r k h e = (h .0, below-snoc acc r k (h .1) e)
 
-  pub remove-split-new : (k : Bytes) (l m : Rows A) → Below l k → Above k m → removeRow k (l ++ m) ≡ l ++ m
-  unfolding removeRow
-  remove-split-new k [] m h i = remove-least k m i
-  remove-split-new k (r ∷ l) m h i = rw (order-flip (r .0) k ∙ ap flipped (h .0)) (ap (λ (t : Rows A). r ∷ t) (remove-split-new k l m (h .1) i))
+  cross-snoc : (acc : Rows A) (r : Bytes × A) (l : Rows A) → Cross acc l → Above (r .0) l → Cross (acc ++ (r ∷ [])) l
+  cross-snoc acc r [] h a = tt
+  cross-snoc acc r (q ∷ l) h a = (below-snoc acc r (q .0) (h .0) (a .0), cross-snoc acc r l (h .1) (a .1))
 
--- the payload changed, the keys kept
+  cross-nil : (l : Rows A) → Cross [] l
+  cross-nil [] = tt
+  cross-nil (r ∷ l) = (tt, cross-nil l)
+
+  set-all : (acc l : Rows A) → Cross acc l → Sorted l → setAll acc l ≡ acc ++ l
+  unfolding setAll
+  set-all acc [] h s = sym (append-nil acc)
+  set-all acc (r ∷ l) h s =
+      rw (set-last (r .0) (r .1) acc (h .0)) (set-all (acc ++ (r ∷ [])) l (cross-snoc acc r l (h .1) (s .0)) (s .1) ∙ append-assoc acc (r ∷ []) l)
+
+  -- putting a map's rows in, one after another in key order, gives the map
+  pub set-all-nil : (l : Rows A) → Sorted l → setAll [] l ≡ l
+  set-all-nil l s = set-all [] l (cross-nil l) s
+
+-- ---- what a row holds changed, the keys kept
 module _ {A B : Type 0} where
   pub map-set : (f : A → B) (k : Bytes) (a : A) (l : Rows A) → mapRows f (setRow k a l) ≡ setRow k (f a) (mapRows f l)
   unfolding mapRows setRow
@@ -347,14 +409,16 @@ unfolding mapRows
 map-length f [] = refl
 map-length f (r ∷ l) = ap suc (map-length f l)
 
+pub map-keys : {A B : Type 0} (f : A → B) (l : Rows A) → keysIn (mapRows f l) ≡ keysIn l
+unfolding mapRows keysIn
+map-keys f [] = refl
+map-keys f (r ∷ l) = ap (λ (t : List Bytes). r .0 ∷ t) (map-keys f l)
+
+pub sorted-map : {A B : Type 0} (f : A → B) (l : Rows A) → Sorted l → Sorted (mapRows f l)
+sorted-map f l s = rising-sorted (mapRows f l) (ap rising (map-keys f l) ∙ sorted-rising l s)
+
 pub sorted-unmap : {A B : Type 0} (f : A → B) (l : Rows A) → Sorted (mapRows f l) → Sorted l
-unfolding mapRows
-sorted-unmap f [] h = tt
-sorted-unmap f (r ∷ l) h = (above l (h .0), sorted-unmap f l (h .1))
-  where
-    above : (m : Rows _) → Above (r .0) (mapRows f m) → Above (r .0) m
-    above [] i = tt
-    above (q ∷ m) i = (i .0, above m (i .1))
+sorted-unmap f l s = rising-sorted l (sym (ap rising (map-keys f l)) ∙ sorted-rising (mapRows f l) s)
 
 pub map-map : {A B D : Type 0} (f : A → B) (g : B → D) (l : Rows A) → mapRows g (mapRows f l) ≡ mapRows (λ (a : A). g (f a)) l
 unfolding mapRows

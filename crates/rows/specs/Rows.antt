@@ -1,7 +1,7 @@
 -- A map as a list of rows, each a key and what is held under it, in the order of the keys.
-use Prim.Native.Nat.{ℕ}
 use mathlib.Core.Bool.{Bool, true, false, cond, _&&_, _||_}
 use mathlib.Core.List.{List, [], _∷_}
+use mathlib.Core.Option.{Option, none, some}
 use mathlib.Core.Path.{_≡_}
 use Rattle.base.specs.Bytes.{Bytes, same}
 use Rattle.names.specs.Order.{orderOf}
@@ -48,6 +48,11 @@ module _ {A : Type 0} where
   unfoldable pub hasKey : Bytes → Rows A → Bool
   hasKey k [] = false
   hasKey k (r ∷ l) = same k (r .0) || hasKey k l
+
+  -- what is held under the key k: that of the first row that has it, if there is one
+  unfoldable pub heldUnder : Bytes → Rows A → Option A
+  heldUnder k [] = none
+  heldUnder k (r ∷ l) = cond (same k (r .0)) (some (r .1)) (heldUnder k l)
 
   -- every key is above k
   abbrev pub Above : Bytes → Rows A → Type 0

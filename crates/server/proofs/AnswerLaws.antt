@@ -25,7 +25,7 @@ use Rattle.state.specs.Views.{view, ledgerOf}
 use Rattle.state.specs.declared.Server.{Server}
 
 -- no bytes change nothing
-pub put-nothing : (d : Bytes) → put d 0 [] ≡ d
+put-nothing : (d : Bytes) → put d 0 [] ≡ d
 unfolding put
 put-nothing d = refl
 
@@ -54,13 +54,10 @@ accepted-call s x out r after e told became written stays = record {
   well-formed = stays;
 }
 
--- two tables of checks, one behind the other, that let all pass: both do
-pub both-passed : {R : Type 0} (a b : List (Check R)) → firstOf (a ++ b) ≡ none → (firstOf a ≡ none) × (firstOf b ≡ none)
-both-passed {R} a b e = go (firstOf a) refl
-  where
-    go : (t : Option R) → firstOf a ≡ t → (firstOf a ≡ none) × (firstOf b ≡ none)
-    go none f = (f, sym (pass-all a b f) ∙ e)
-    go (some r) f = let g : firstOf (a ++ b) ≡ some r = stop-all a b r f in absurd (let z : _≡_ {A = ℕ} 0 1 = cc in omega arith)
+-- on a well-formed state only the checks of the call refuse
+pub well-refusal : (s : Server) (x : Call) → WellFormed s → refusalOf s x ≡ firstOf (callChecks (ledgerOf (view s)) x)
+unfolding refusalOf
+well-refusal s x w = pass-all (illFormsOf s) (callChecks (ledgerOf (view s)) x) w
 
 -- a table behind the test of the state: it comes to the refusal of a call if it does so wherever the state is well-formed
 pub refusal-is : (s : Server) (x : Call) (checks : List (Check Refusal)) → (WellFormed s → firstOf checks ≡ firstOf (callChecks (ledgerOf (view s)) x))
@@ -69,10 +66,5 @@ unfolding refusalOf
 refusal-is s x checks same = go (firstOf (illFormsOf s)) refl
   where
     go : (t : Option Refusal) → firstOf (illFormsOf s) ≡ t → firstOf (illFormsOf s ++ checks) ≡ firstOf (illFormsOf s ++ callChecks (ledgerOf (view s)) x)
-    go none e = pass-all (illFormsOf s) checks e ∙ same e ∙ sym (pass-all (illFormsOf s) (callChecks (ledgerOf (view s)) x) e)
+    go none e = pass-all (illFormsOf s) checks e ∙ same e ∙ sym (well-refusal s x e)
     go (some r) e = stop-all (illFormsOf s) checks r e ∙ sym (stop-all (illFormsOf s) (callChecks (ledgerOf (view s)) x) r e)
-
--- the state of an accepted call is well-formed
-pub accepted-state : (s : Server) (x : Call) → refusalOf s x ≡ none → WellFormed s
-unfolding refusalOf
-accepted-state s x e = both-passed (illFormsOf s) (callChecks (ledgerOf (view s)) x) e .0

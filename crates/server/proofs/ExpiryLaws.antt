@@ -1,9 +1,8 @@
 -- Laws of expiries: a lifetime of at most 86,400 seconds behind a tick in range is an expiry, and is not the mark of none. Assumes nothing.
-use Prim.Native.Nat.{ℕ, _+_, _*_, _≤_, _<_}
+use Prim.Native.Nat.{ℕ, _+_, _*_, _≤_}
 use native.Mathlib.Omega.{arith}
-use mathlib.Core.Bool.{true, false, cond, _||_}
-use mathlib.Core.Option.{some}
-use mathlib.Core.Path.{_≡_, refl, sym, ap, _∙_}
+use mathlib.Core.Bool.{true}
+use mathlib.Core.Path.{_≡_, sym, ap, _∙_}
 use borrow.Author.Tests.{ne-eqb, le-leb}
 use Rattle.base.specs.Bytes.{Bytes}
 use Rattle.names.specs.Numbers.{maxTick}

@@ -15,7 +15,7 @@ use Rattle.answers.specs.declared.refusal.Refusal.the-variants.{ShortOutput}
 use Rattle.answers.specs.declared.refusal.Refusal.{Refusal}
 use Rattle.answers.specs.declared.refusal.Verdict.the-variants.{Accept, Refuse}
 use Rattle.answers.specs.declared.refusal.Verdict.{Verdict}
-use Rattle.base.proofs.CheckLaws.{passed}
+use Rattle.base.proofs.CheckLaws.{passed, both-passed}
 use Rattle.base.proofs.OutputLaws.{place, output}
 use Rattle.base.specs.Bytes.{Bytes}
 use Rattle.base.specs.Checks.{Check, firstOf}
@@ -26,7 +26,7 @@ use Rattle.ports.proofs.PortLaws.{frame-is}
 use Rattle.ports.specs.Ports.{framed, icanhazChecks, icanhazPort}
 use Rattle.rows.proofs.RowLaws.{map-map}
 use Rattle.rows.specs.Rows.{Rows, mapRows}
-use Rattle.server.proofs.AnswerLaws.{refused-call, accepted-call, both-passed, refusal-is}
+use Rattle.server.proofs.AnswerLaws.{refused-call, accepted-call, refusal-is}
 use Rattle.server.specs.Calls.{icanhaz}
 use Rattle.server.specs.Next.{acceptedNext}
 use Rattle.server.specs.Output.{acceptedBytes}
@@ -68,7 +68,7 @@ module _ (state : List (Check Refusal)) (msg : Bytes) (rows : Rows ℕ) (room : 
 
   pub port-refused : (r : Refusal) → Refuse r ≡ verdict (firstOf (icanhazPort msg))
       → Refuse r ≡ verdict (firstOf (state ++ (icanhazPort msg ++ snapshotChecks rows (frameAt 0 msg) (frameAt 2 msg) room)))
-  port-refused r e = past-refused (icanhazPort msg) last r e ∙ sym (ap verdict (past-accepted state (icanhazPort msg ++ last) well))
+  port-refused r e = past-refused verdict (icanhazPort msg) last r e ∙ sym (ap verdict (past-accepted state (icanhazPort msg ++ last) well))
 
   pub by-room : Accept ≡ verdict (firstOf (icanhazPort msg)) → {r : Verdict} → r ≡ verdict (firstOf (snapshotChecks rows (bodyAt 0 msg) (bodyAt 2 msg) room))
       → r ≡ verdict (firstOf (state ++ (icanhazPort msg ++ snapshotChecks rows (frameAt 0 msg) (frameAt 2 msg) room)))

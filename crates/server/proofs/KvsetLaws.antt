@@ -1,32 +1,29 @@
 -- Laws of KVSET: the plan that is made, and what is known where it is to go. Assumes nothing.
-use Prim.Native.Nat.{ℕ, zero, suc, _+_, _≤_, _<_, min}
+use Prim.Native.Nat.{ℕ, suc, _≤_, _<_, min}
 use native.Mathlib.Omega.{arith}
-use mathlib.Core.Bool.{Bool, true, false, not, cond, _&&_}
-use mathlib.Core.List.{List, [], _∷_, _++_}
+use mathlib.Core.Bool.{Bool, true, false, not, _&&_}
+use mathlib.Core.List.{List, [], _∷_}
 use mathlib.Core.Option.{Option, none, some}
 use mathlib.Core.Path.{_≡_, refl, sym, ap, _∙_}
-use lib.Dec.{leb, ltb, eqb}
+use lib.Dec.{leb, eqb}
 use lib.ListN.{length}
 use borrow.Author.Tests.{lt-ltb, le-ltb, eq-eqb, ne-eqb}
-use Rattle.answers.proofs.VerdictLaws.{accepted, refused}
+use Rattle.answers.proofs.VerdictLaws.{accepted}
 use Rattle.answers.specs.Refusals.{verdict}
 use Rattle.answers.specs.declared.refusal.Refusal.the-variants.{Full, Exhausted, ShortOutput}
 use Rattle.answers.specs.declared.refusal.Refusal.{Refusal}
-use Rattle.answers.specs.declared.refusal.Verdict.the-variants.{Accept, Refuse as Refused}
-use Rattle.base.proofs.CheckLaws.{pass-all, stop-all}
-use Rattle.base.proofs.OctetLaws.{length-octets}
+use Rattle.answers.specs.declared.refusal.Verdict.the-variants.{Accept}
+use Rattle.base.proofs.CheckLaws.{both-passed}
 use Rattle.base.specs.Bytes.{Bytes, isNil}
-use Rattle.base.specs.Checks.{Check, firstOf}
+use Rattle.base.specs.Checks.{firstOf}
 use Rattle.base.specs.Output.{Written, largest}
-use Rattle.messages.proofs.WriteLaws.{bytes-length}
-use Rattle.frames.specs.Messages.{bodyAt}
-use Rattle.messages.specs.Fields.{Fields, bytesOf, kvpub, messageLength, frameAt, fieldsOf}
+use Rattle.messages.specs.Fields.{Fields, bytesOf, kvpub, messageLength, fieldsOf}
 use Rattle.names.specs.Numbers.{sequence, maxSequence}
 use Rattle.names.specs.declared.numbers.Sequence.{Sequence}
-use Rattle.ports.proofs.PortLaws.{frame-is}
+use Rattle.ports.proofs.PortLaws.{fields-are}
 use Rattle.ports.specs.Bodies.{bodiesOf}
 use Rattle.ports.specs.Ports.{framed, kvsetChecks, kvsetPort}
-use Rattle.server.proofs.AnswerLaws.{both-passed}
+use Rattle.server.proofs.LengthLaws.{update-length}
 use Rattle.server.specs.Plans.{planOf, isFound, isOver}
 use Rattle.server.specs.Refusals.{update, updateChecks}
 use Rattle.server.specs.declared.kvset.Plan.the-variants.{Refuse, Go}
@@ -35,14 +32,6 @@ use Rattle.table.specs.Find.{placeOf, changeTo}
 use Rattle.table.specs.declared.change.Change.{Change}
 use Rattle.table.specs.declared.find.Found.the-variants.{At, Missing}
 use Rattle.table.specs.declared.find.Found.{Found}
-
--- ---- tables of checks, one behind the other
-module _ (a b : List (Check Refusal)) (change : Change) where
-  pub stopped : (r : Refusal) → Refused r ≡ verdict (firstOf a) → Refuse r ≡ planOf (firstOf (a ++ b)) change
-  stopped r e = rw (stop-all a b r (refused r (firstOf a) e))
-
-  pub passed-on : Accept ≡ verdict (firstOf a) → planOf (firstOf (a ++ b)) change ≡ planOf (firstOf b) change
-  passed-on e = rw (pass-all a b (accepted (firstOf a) e))
 
 -- ---- a plan that goes on has passed all checks, and one that does not tells the first refusal
 module _ (x : Option Refusal) (change : Change) {plan : Plan} (e : plan ≡ planOf x change) where
@@ -69,12 +58,10 @@ module _ (x : Option Refusal) (change : Change) {plan : Plan} (e : plan ≡ plan
 -- the bodies of a message that the port lets pass are its fields
 pub fields-read : (msg : Bytes) → Accept ≡ verdict (firstOf (kvsetPort msg)) → bodiesOf msg ≡ fieldsOf msg
 fields-read msg e =
-    let f : Accept ≡ verdict (firstOf (framed 5 msg)) = rw (both-passed (framed 5 msg) (kvsetChecks (fieldsOf msg)) (accepted (firstOf (kvsetPort msg)) e) .0) in
-    let at : (k : ℕ) → k < 5 → bodyAt k msg ≡ frameAt k msg = frame-is 5 msg f in
-    rw (at 0 (omega arith), at 1 (omega arith), at 2 (omega arith), at 3 (omega arith), at 4 (omega arith))
+    fields-are msg (rw (both-passed (framed 5 msg) (kvsetChecks (fieldsOf msg)) (accepted (firstOf (kvsetPort msg)) e) .0))
 
 -- ---- an update
-pub nil-length : (s : Bytes) → eqb (length s) 0 ≡ isNil s
+nil-length : (s : Bytes) → eqb (length s) 0 ≡ isNil s
 nil-length [] = refl
 nil-length (x ∷ s) = ne-eqb (suc (length s)) 0 (λ e. omega arith)
 
@@ -84,15 +71,8 @@ over-is true (Missing i) count = refl
 over-is false (At i) count = refl
 over-is false (Missing i) count = refl
 
-pub update-length : (n : ℕ) (f : Fields) → length (update n f) ≡ messageLength (length (f .head)) (length (f .uuid)) (length (f .properties)) (length (f .value))
-unfolding update
-update-length n f = bytes-length (kvpub n (f .head) (f .uuid) (f .properties) (f .value)) (length-octets 8 n)
-
 module _ (keys : List Bytes) (count n room : ℕ) (f : Fields) {key value : Bytes} (head-is : key ≡ f .head) (value-is : value ≡ f .value) {found : Found} {change : Change}
     (found-is : found ≡ placeOf 0 key keys) (change-is : change ≡ changeTo (eqb (length value) 0) found) where
-  place : Found
-  place = placeOf 0 (f .head) keys
-
   pub change-right : change ≡ changeTo (isNil (f .value)) (placeOf 0 (f .head) keys)
   change-right = change-is ∙ rw (nil-length value, found-is, head-is, value-is)
 

@@ -2,6 +2,7 @@ pub mod AnswerLaws
 pub mod ExpiryLaws
 pub mod IcanhazLaws
 pub mod KvsetLaws
+pub mod LengthLaws
 pub mod QuietLaws
 pub mod RunLaws
 pub mod StartLaws

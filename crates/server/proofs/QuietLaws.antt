@@ -3,32 +3,25 @@
 use Prim.Native.Nat.{ℕ, zero, suc, _-_, _≤_, _<_}
 use native.Mathlib.Omega.{arith}
 use mathlib.Core.Bool.{Bool, true, false}
-use mathlib.Core.List.{List, [], _∷_, zipWith}
 use mathlib.Core.Option.{Option, none, some}
 use mathlib.Core.Path.{_≡_, refl, sym, ap, _∙_}
 use lib.Dec.{leb, ltb, eqb}
-use lib.ListN.{length, take}
-use lib.Seq.{length-take-le}
+use lib.ListN.{length}
 use borrow.Author.Tests.{leb-true, leb-false, le-leb, le-ltb, lt-leb}
 use Rattle.answers.specs.Answers.{answer}
 use Rattle.answers.specs.declared.answer.Kind.the-variants.{Refused, Nothing}
 use Rattle.answers.specs.declared.refusal.Refusal.the-variants.{Exhausted}
 use Rattle.answers.specs.declared.refusal.Refusal.{Refusal}
-use Rattle.base.proofs.ByteLaws.{and-left, and-right}
 use Rattle.base.proofs.CheckLaws.{pass-all}
 use Rattle.base.specs.Bytes.{Bytes, every}
 use Rattle.base.specs.Checks.{firstOf}
 use Rattle.base.specs.Output.{put}
-use Rattle.messages.proofs.LengthLaws.{kvpub-length, hugz-bytes}
-use Rattle.messages.specs.Fields.{bytesOf, hugz}
 use Rattle.names.specs.Keys.{isKey}
 use Rattle.names.specs.Numbers.{maxSequence, maxTick}
-use Rattle.names.specs.Order.{orderOf}
-use Rattle.names.specs.declared.order.Order.the-variants.{Less, Equal, Greater}
-use Rattle.names.specs.declared.order.Order.{Order}
-use Rattle.rows.proofs.RowLaws.{map-remove, map-length, sorted-remove, sorted-rising, rising-sorted}
-use Rattle.rows.specs.Rows.{Rows, part, removeRow, keysIn, Sorted, mapRows, rising}
-use Rattle.server.proofs.RunLaws.{refusal-is}
+use Rattle.rows.proofs.RowLaws.{map-remove, map-length, map-keys, sorted-map, sorted-remove, rising-sorted, every-remove}
+use Rattle.rows.specs.Rows.{Rows, removeRow, keysIn, Sorted, mapRows, rising}
+use Rattle.server.proofs.AnswerLaws.{well-refusal}
+use Rattle.server.proofs.LengthLaws.{expiry-bound, hugz-length}
 use Rattle.server.specs.Answers.{answerFor}
 use Rattle.server.specs.Calls.{tick}
 use Rattle.server.specs.Deeds.{Deed, expire, beat, quiet, deedOf, deed}
@@ -42,55 +35,12 @@ use Rattle.server.specs.Repeats.{tickStep, ticked, QuietBy, Ticking, Sil
 use Rattle.server.specs.declared.Reply.{Reply}
 use Rattle.state.proofs.DueLaws.{dueCount, count-due, count-length, count-none, count-some, due-key}
 use Rattle.state.proofs.FormLaws.{good-server}
-use Rattle.state.proofs.StateLaws.{Sized}
+use Rattle.state.proofs.StateLaws.{SizedServer, as-long, rows-long}
 use Rattle.state.specs.Due.{leastDue}
 use Rattle.state.specs.IllFormed.{WellFormed}
-use Rattle.state.specs.Views.{Held, Entry, Ledger, plain, ledgerOf, view, entry, stamp, entriesOf, keysOf, heldOf}
+use Rattle.state.specs.Views.{Held, Entry, Ledger, plain, ledgerOf, view, keysOf, heldOf}
 use Rattle.state.specs.declared.Server.{Server}
-use Rattle.table.proofs.ChangeLaws.{length-zip}
 use Rattle.table.proofs.FindLaws.{keys-in-rows}
-use Rattle.table.proofs.TextLaws.{length-texts}
-use Rattle.table.specs.Columns.{texts, rowsOf, row}
-
--- ---- keys of rows
-pub map-keys : {A B : Type 0} (f : A → B) (l : Rows A) → keysIn (mapRows f l) ≡ keysIn l
-unfolding mapRows keysIn
-map-keys f [] = refl
-map-keys f (r ∷ l) = ap (λ (t : List Bytes). r .0 ∷ t) (map-keys f l)
-
-pub sorted-map : {A B : Type 0} (f : A → B) (l : Rows A) → Sorted l → Sorted (mapRows f l)
-sorted-map f l s = rising-sorted (mapRows f l) (ap rising (map-keys f l) ∙ sorted-rising l s)
-
--- what holds of every key holds of those that are left
-pub every-remove : {A : Type 0} (test : Bytes → Bool) (k : Bytes) (l : Rows A) → every test (keysIn l) ≡ true → every test (keysIn (removeRow k l)) ≡ true
-unfolding every keysIn removeRow
-every-remove test k [] e = refl
-every-remove test k (r ∷ l) e =
-    let a = and-left (test (r .0)) (every test (keysIn l)) e in
-    let b = and-right (test (r .0)) (every test (keysIn l)) e in
-    go a b (orderOf k (r .0)) (every-remove test k l b)
-  where
-    go : test (r .0) ≡ true → every test (keysIn l) ≡ true → (o : Order) → every test (keysIn (removeRow k l)) ≡ true
-        → every test (keysIn (part o r l (removeRow k l))) ≡ true
-    go a b Less ih = rw (a, b)
-    go a b Equal ih = b
-    go a b Greater ih = rw (a, ih)
-
--- ---- what a Tick writes is short
-key-short : (key : Bytes) → isKey key ≡ true → length key ≤ 96
-unfolding isKey
-key-short key e = leb-true (length key) 96 (and-left (leb (length key) 96) _ e)
-
--- the KVPUB of a row that expired: at most 114 bytes
-pub expiry-bound : (n : ℕ) (key : Bytes) → isKey key ≡ true → length (expiry n key) ≤ 114
-unfolding expiry
-expiry-bound n key e =
-    let k = key-short key e in
-    let f = le-leb (length key) 255 (omega arith) in
-    omega (arith, rw f at (kvpub-length n key k [] [] []))
-
-pub hugz-length : length (bytesOf hugz) ≡ 22
-hugz-length = rw hugz-bytes
 
 -- ---- one Tick
 -- what the refusals read of the rows
@@ -209,33 +159,17 @@ pub sixty-fifth : (v : Ledger Entry) (t room : ℕ) → Sorted (v .rows) → len
 sixty-fifth v t room s l k h late enough = quiet-by t room late enough v s l k h
 
 -- ---- the same from a well-formed state
-module _ (s : Server) (z : Sized (s .table .«key_lengths») (s .table .«value_lengths») (s .numbers) (s .expiries)) (w : WellFormed s) where
-  abbrev count : ℕ
-  count = s .table .count
-
-  few-rows : count ≤ 64
+module _ (s : Server) (z : SizedServer s) (w : WellFormed s) where
+  few-rows : s .table .count ≤ 64
   few-rows = good-server s w .count
-
-  keys-long : length (keysOf s) ≡ count
-  keys-long = length-texts 96 count (s .table .«key_lengths») (omega (arith, few-rows, z .key-lengths)) (s .table .keys)
-
-  column-long : (l : List ℕ) → length l ≡ 64 → length (take count l) ≡ count
-  column-long l e = length-take-le count l (omega (arith, few-rows))
-
-  held-long : length (heldOf s) ≡ count
-  unfolding entriesOf
-  held-long =
-      length-zip entry count (texts 256 count (s .table .«value_lengths») (s .table .values)) (zipWith stamp (take count (s .numbers)) (take count (s .expiries)))
-      (length-texts 256 count (s .table .«value_lengths») (omega (arith, few-rows, z .value-lengths)) (s .table .values))
-      (length-zip stamp count (take count (s .numbers)) (take count (s .expiries)) (column-long (s .numbers) (z .numbers)) (column-long (s .expiries) (z .expiries)))
 
   keys-held : keysIn (view s .rows) ≡ keysOf s
   unfolding view
-  keys-held = keys-in-rows (keysOf s) (heldOf s) (keys-long ∙ sym held-long)
+  keys-held = keys-in-rows (keysOf s) (heldOf s) (as-long s z few-rows)
 
   rows-few : length (view s .rows) ≤ 64
-  unfolding view rowsOf
-  rows-few = omega (arith, few-rows, length-zip row count (keysOf s) (heldOf s) keys-long held-long)
+  unfolding view
+  rows-few = omega (arith, few-rows, rows-long s z few-rows)
 
   pub state-quiet : (t room : ℕ) → s .header .«last_tick» .0 ≤ t → t ≤ maxTick → 114 ≤ room → QuietBy 64 t room (view s)
   unfolding view
@@ -253,7 +187,7 @@ ticked-more (suc k) t room v = ticked-more k t room (tickStep t room v)
 module _ (s : Server) (t room : ℕ) (w : WellFormed s) where
   pub next-is-step : nextOf s (tick t room) ≡ tickStep t room (view s)
   unfolding nextOf tickStep
-  next-is-step = rw (refusal-is s (tick t room) w)
+  next-is-step = rw (well-refusal s (tick t room) w)
 
   module _ (out : Bytes) (r : Reply) (after : Bytes) (a : Answered s (tick t room) out r after) where
     abbrev verdict-on : Option Refusal
@@ -262,15 +196,15 @@ module _ (s : Server) (t room : ℕ) (w : WellFormed s) where
     -- a call that has nothing to do answers Nothing and leaves the output
     pub quiet-answer : verdict-on ≡ none → deed (ledgerOf (view s)) t ≡ quiet → r .answer ≡ answer (Nothing (s .header .number)) 0
     unfolding answerFor acceptedBytes tickBytes view
-    quiet-answer e d = a .answer ∙ rw (refusal-is s (tick t room) w ∙ e, d)
+    quiet-answer e d = a .answer ∙ rw (well-refusal s (tick t room) w ∙ e, d)
 
     pub quiet-output : verdict-on ≡ none → deed (ledgerOf (view s)) t ≡ quiet → after ≡ out
     unfolding bytesFor acceptedBytes tickBytes put
-    quiet-output e d = a .output ∙ rw (refusal-is s (tick t room) w ∙ e, d)
+    quiet-output e d = a .output ∙ rw (well-refusal s (tick t room) w ∙ e, d)
 
     pub spent-answer : verdict-on ≡ some Exhausted → r .answer ≡ answer (Refused Exhausted (s .header .number)) 0
     unfolding answerFor
-    spent-answer e = a .answer ∙ rw (refusal-is s (tick t room) w ∙ e)
+    spent-answer e = a .answer ∙ rw (well-refusal s (tick t room) w ∙ e)
 
 -- of Ticks one after another the 65th at the latest answers Nothing, unless one before is refused for want of a number
 module _ {t room : ℕ} {state : ℕ → Server} {out : ℕ → Bytes} {reply : ℕ → Reply} {after : ℕ → Bytes} (c : Ticking t room state out reply after)
@@ -295,6 +229,5 @@ module _ {t room : ℕ} {state : ℕ → Server} {out : ℕ → Bytes} {reply : 
   silent-by most (stops k h a) =
       spent k h (spent-answer (state k) t room (stays k) (out k) (reply k) (after k) (c .each k) (rw (← ledger-at k) at a))
 
-  pub silent-by-65 : Sized (state 0 .table .«key_lengths») (state 0 .table .«value_lengths») (state 0 .numbers) (state 0 .expiries)
-      → state 0 .header .«last_tick» .0 ≤ t → t ≤ maxTick → 114 ≤ room → SilentBy 64 state out reply after
+  pub silent-by-65 : SizedServer (state 0) → state 0 .header .«last_tick» .0 ≤ t → t ≤ maxTick → 114 ≤ room → SilentBy 64 state out reply after
   silent-by-65 z h late enough = silent-by 64 (state-quiet (state 0) z w t room h late enough)

@@ -11,15 +11,15 @@ use Rattle.answers.specs.Refusals.{refusalNumber}
 use Rattle.answers.specs.declared.refusal.Refusal.the-variants.{IllFormed}
 use Rattle.answers.specs.declared.refusal.Refusal.{Refusal}
 use Rattle.base.proofs.ByteLaws.{and-left, and-right}
-use Rattle.base.proofs.CheckLaws.{pass-all}
 use Rattle.base.specs.Checks.Check.{when}
 use Rattle.base.specs.Checks.{Check, firstOf}
+use Rattle.server.proofs.AnswerLaws.{well-refusal}
 use Rattle.server.specs.Calls.{Call, kvset, tick, icanhaz}
 use Rattle.server.specs.Deeds.{Deed, expire, beat, quiet, deed}
 use Rattle.server.specs.Refusals.{tickChecks, deedChecks, callChecks, refusalOf}
 use Rattle.server.specs.Runs.Reached.{began, called}
 use Rattle.server.specs.Runs.{Reached}
-use Rattle.state.specs.IllFormed.{illFormsOf, WellFormed}
+use Rattle.state.specs.IllFormed.{WellFormed}
 use Rattle.state.specs.Views.{Held, Ledger, view, ledgerOf}
 use Rattle.state.specs.declared.Server.{Server}
 
@@ -56,13 +56,8 @@ call-spares b (tick t room) = deed-spares (b .number) (b .lastTick) t room (deed
 call-spares b (icanhaz msg room) = refl
 
 -- ---- calls on a well-formed state
--- the state's own checks pass
-pub refusal-is : (s : Server) (x : Call) → WellFormed s → refusalOf s x ≡ firstOf (callChecks (ledgerOf (view s)) x)
-unfolding refusalOf
-refusal-is s x w = pass-all (illFormsOf s) (callChecks (ledgerOf (view s)) x) w
-
 pub not-ill-formed : (s : Server) (x : Call) → WellFormed s → refusalOf s x ≡ some IllFormed → ⊥
-not-ill-formed s x w e = none-ill (callChecks (ledgerOf (view s)) x) (call-spares (ledgerOf (view s)) x) (sym (refusal-is s x w) ∙ e)
+not-ill-formed s x w e = none-ill (callChecks (ledgerOf (view s)) x) (call-spares (ledgerOf (view s)) x) (sym (well-refusal s x w) ∙ e)
 
 pub never-ill-formed : {s : Server} → Reached s → (x : Call) → refusalOf s x ≡ some IllFormed → ⊥
 never-ill-formed {s} p x e = not-ill-formed s x (reached-well-formed p) e

@@ -1,16 +1,12 @@
 -- A state without rows is well-formed, and its ledger is empty. Assumes nothing.
 use Prim.Native.Nat.{ℕ, _≤_}
 use native.Mathlib.Omega.{arith}
-use mathlib.Core.List.{[], zipWith}
-use mathlib.Core.Path.{_≡_, refl, sym, ap, _∙_}
-use mathlib.Core.Bool.{not}
-use mathlib.Core.Option.{some, none}
-use lib.Dec.{leb}
+use mathlib.Core.List.{zipWith}
+use mathlib.Core.Path.{_≡_, refl}
 use borrow.Author.Tests.{leb-true, not-false}
 use Rattle.answers.proofs.VerdictLaws.{accepted, refused}
 use Rattle.answers.specs.Answers.{answer}
 use Rattle.answers.specs.Refusals.{verdict}
-use Rattle.answers.specs.declared.answer.Answer.{Answer}
 use Rattle.answers.specs.declared.answer.Kind.the-variants.{Refused, Started}
 use Rattle.answers.specs.declared.refusal.Refusal.{Refusal}
 use Rattle.answers.specs.declared.refusal.Verdict.the-variants.{Accept, Refuse}
@@ -23,7 +19,7 @@ use Rattle.rows.specs.Rows.{rising}
 use Rattle.server.specs.Promises.{Began}
 use Rattle.server.specs.Start.{startChecks, startRefusal, startOf, startAnswer, emptyAt, headerAt}
 use Rattle.server.specs.declared.Reply.{Reply}
-use Rattle.state.proofs.FormLaws.{GoodServer, server-good}
+use Rattle.state.proofs.FormLaws.{server-good}
 use Rattle.state.specs.IllFormed.{WellFormed}
 use Rattle.state.specs.Views.{view, entriesOf}
 use Rattle.state.specs.declared.Server.{Server}

@@ -1,42 +1,37 @@
 -- Laws of Tick: what it is found to come to, what is known where a row is to expire, and that each of its ways gives what it promises.
 -- Assumes nothing.
-use Prim.Native.Nat.{ℕ, zero, suc, _+_, _-_, _≤_, _<_, min}
-use native.Mathlib.Nat.{le-of-suc-le-suc, not-suc-le-zero, zero-add}
+use Prim.Native.Nat.{ℕ, suc, _+_, _-_, _≤_, _<_, min}
+use native.Mathlib.Nat.{zero-add}
 use native.Mathlib.Omega.{arith}
 use mathlib.Core.Bool.{Bool, true, false, cond}
-use mathlib.Core.List.{List, [], _∷_, _++_, zipWith}
+use mathlib.Core.List.{List, [], _++_}
 use mathlib.Core.Option.{Option, none, some}
 use mathlib.Core.Path.{_≡_, refl, sym, ap, _∙_}
 use lib.Dec.{leb}
 use lib.ListN.{length, getD, take, length-take}
-use lib.Seq.{getD-take}
 use borrow.Author.Tests.{ltb-false, leb-true, eqb-false, not-false, lt-ltb, le-ltb, le-leb, lt-leb, eq-eqb, ne-eqb}
-use Rattle.answers.proofs.VerdictLaws.{accepted, refused}
+use Rattle.answers.proofs.VerdictLaws.{accepted}
 use Rattle.answers.specs.Answers.{answer}
 use Rattle.answers.specs.Refusals.{verdict}
 use Rattle.answers.specs.declared.answer.Answer.{Answer}
 use Rattle.answers.specs.declared.answer.Kind.the-variants.{Refused as Told, Wrote, Nothing as Silent}
 use Rattle.answers.specs.declared.refusal.Refusal.the-variants.{BadTick, Exhausted, ShortOutput}
 use Rattle.answers.specs.declared.refusal.Refusal.{Refusal}
-use Rattle.answers.specs.declared.refusal.Verdict.the-variants.{Accept, Refuse as Refused}
+use Rattle.answers.specs.declared.refusal.Verdict.the-variants.{Accept}
 use Rattle.answers.specs.declared.refusal.Verdict.{Verdict}
-use Rattle.base.proofs.ByteLaws.{and-left, and-right}
-use Rattle.base.proofs.CheckLaws.{passed, pass-all, stop-all}
-use Rattle.base.proofs.OctetLaws.{length-octets}
+use Rattle.base.proofs.CheckLaws.{passed, both-passed}
 use Rattle.base.proofs.OutputLaws.{output, place}
-use Rattle.base.specs.Bytes.{Bytes, every}
+use Rattle.base.specs.Bytes.{Bytes}
 use Rattle.base.specs.Checks.{Check, firstOf}
 use Rattle.base.specs.Output.{largest, put, Written}
-use Rattle.cells.proofs.CellLaws.{length-cells, cell-at}
-use Rattle.cells.specs.Cells.{cells, cellAt}
-use Rattle.messages.proofs.LengthLaws.{hugz-bytes}
-use Rattle.messages.proofs.WriteLaws.{bytes-length}
+use Rattle.cells.specs.Cells.{cellAt}
 use Rattle.messages.specs.Fields.{bytesOf, kvpub, hugz, messageLength}
 use Rattle.names.specs.Numbers.{sequence, maxSequence, maxTick}
 use Rattle.names.specs.declared.numbers.Sequence.{Sequence}
 use Rattle.names.specs.declared.numbers.Tick.{Tick}
 use Rattle.rows.specs.Rows.{removeRow}
-use Rattle.server.proofs.AnswerLaws.{refused-call, accepted-call, both-passed, refusal-is}
+use Rattle.server.proofs.AnswerLaws.{refused-call, accepted-call, refusal-is}
+use Rattle.server.proofs.LengthLaws.{expiry-length, hugz-length}
 use Rattle.server.specs.Answers.{tickKind}
 use Rattle.server.specs.Calls.{Call, tick}
 use Rattle.server.specs.Deeds.{Deed, expire, beat, quiet, deed, deedOf}
@@ -49,8 +44,8 @@ use Rattle.server.specs.declared.Reply.{Reply}
 use Rattle.server.specs.declared.tick.Step.the-variants.{Refuse as Stop, Expire, Beat, Quiet}
 use Rattle.server.specs.declared.tick.Step.{Step}
 use Rattle.state.proofs.DueLaws.{due-at, keyed, by-place}
-use Rattle.state.proofs.FormLaws.{GoodServer, good-columns, good-server, server-good}
-use Rattle.state.proofs.StateLaws.{Sized, Columns, rows-after, good-after, entries-long}
+use Rattle.state.proofs.FormLaws.{GoodServer, good-columns, good-later, good-server, server-good}
+use Rattle.state.proofs.StateLaws.{SizedServer, Columns, keys-long, as-long, rows-after, good-after}
 use Rattle.state.specs.Due.{dueFrom}
 use Rattle.state.specs.IllFormed.{illForms, illFormsOf, WellFormed}
 use Rattle.state.specs.Views.{view, ledgerOf, keysOf, heldOf, entriesOf}
@@ -59,46 +54,10 @@ use Rattle.state.specs.declared.Server.{Server}
 use Rattle.state.specs.declared.due.Due.the-variants.{At, Nothing}
 use Rattle.state.specs.declared.due.Due.{Due}
 use Rattle.table.proofs.FindLaws.{removed-at, rising-removed-at}
-use Rattle.table.proofs.TextLaws.{length-texts}
+use Rattle.table.proofs.TextLaws.{text-at, fit-at}
 use Rattle.table.specs.Changes.{countAfter, Fits}
-use Rattle.table.specs.Columns.{texts, rowsOf, within, lengthsFit}
+use Rattle.table.specs.Columns.{texts, rowsOf, lengthsFit}
 use Rattle.table.specs.declared.change.Change.the-variants.{Remove}
-
--- ---- the text at a place, and its length, however long the column of lengths is
-every-or : {A : Type 0} (test : A → Bool) (l : List A) (i : ℕ) (d : A) → every test l ≡ true → test d ≡ true → test (getD l i d) ≡ true
-unfolding every
-every-or test [] i d e g = g
-every-or test (x ∷ l) zero d e g = and-left (test x) (every test l) e
-every-or test (x ∷ l) (suc i) d e g = every-or test l i d (and-right (test x) (every test l) e) g
-
-is-within : (m x : ℕ) → x ≤ m → within 0 m x ≡ true
-is-within m x h = rw (le-leb 0 x (omega arith), le-leb x m h)
-
-pub length-fits : (s n : ℕ) (lens : List ℕ) (i : ℕ) → lengthsFit s n lens ≡ true → i < n → getD lens i 0 ≤ s
-length-fits s n lens i p h =
-    let e : within 0 s (getD lens i 0) ≡ true = rw (getD-take n lens i 0 h) at (every-or (within 0 s) (take n lens) i 0 p (is-within s 0 (omega arith))) in
-    leb-true (getD lens i 0) s (and-right (leb 0 (getD lens i 0)) (leb (getD lens i 0) s) e)
-
-part-at : (lens : List ℕ) (parts : List Bytes) (i : ℕ) → i < length parts → getD (zipWith take lens parts) i [] ≡ take (getD lens i 0) (getD parts i [])
-unfolding zipWith
-part-at [] parts i h = refl
-part-at (n ∷ lens) [] i h = absurd (not-suc-le-zero h)
-part-at (n ∷ lens) (p ∷ parts) zero h = refl
-part-at (n ∷ lens) (p ∷ parts) (suc i) h = part-at lens parts i (le-of-suc-le-suc h)
-
-pub text-there : (s n : ℕ) (lens : List ℕ) (all : Bytes) (i : ℕ) → i < n → getD (texts s n lens all) i [] ≡ take (getD lens i 0) (cellAt s i all)
-unfolding texts
-text-there s n lens all i h =
-    let b : i < length (cells s n all) = simp length-cells h in
-    part-at (take n lens) (cells s n all) i b ∙ rw (getD-take n lens i 0 h, cell-at s n i all [] h)
-
--- ---- the lengths of what a Tick writes
-pub expiry-length : (n : ℕ) (key : Bytes) → length (expiry n key) ≡ messageLength (length key) 0 0 0
-unfolding expiry
-expiry-length n key = bytes-length (kvpub n key [] [] []) (length-octets 8 n)
-
-pub hugz-length : length (bytesOf hugz) ≡ 22
-hugz-length = ap length hugz-bytes
 
 -- ---- what there is to do at a tick that is good
 module _ (keys : List Bytes) (t published number room n : ℕ) (es : List ℕ) {found : Due} (is : found ≡ dueFrom 0 t (take n es)) where
@@ -141,14 +100,6 @@ module _ (keys : List Bytes) (t published number room n : ℕ) (es : List ℕ) {
     beats h k =
         rw (sym is ∙ at, le-leb 1000 (t - published) h, le-ltb room (length (bytesOf hugz)) (omega (arith, hugz-length)), le-leb 1000 (t - published) h)
 
--- ---- tables of checks, one behind the other
-module _ (a b : List (Check Refusal)) (t published : ℕ) (d : Due) {v : Verdict} (is : v ≡ verdict (firstOf a)) where
-  pub stopped-there : (r : Refusal) → v ≡ Refused r → Stop r ≡ stepOf (firstOf (a ++ b)) t published d
-  stopped-there r e = rw (stop-all a b r (refused r (firstOf a) (sym e ∙ is)))
-
-  pub went-on : v ≡ Accept → {x : Step} → x ≡ stepOf (firstOf b) t published d → x ≡ stepOf (firstOf (a ++ b)) t published d
-  went-on e f = f ∙ rw (pass-all a b (accepted (firstOf a) (sym e ∙ is)))
-
 -- what is known of columns and a tick that pass
 pub deed-known : (keys : Bytes) (kl vl ns es : List ℕ) (n : ℕ) (h : Header) (t room : ℕ) → room < largest
     → {v : Verdict} → v ≡ verdict (firstOf (illForms keys kl vl ns es n h)) → v ≡ Accept
@@ -185,32 +136,25 @@ module _ (t published : ℕ) where
       go true e = let z : _≡_ {A = ℕ} 0 1 = cc in omega arith
       go false e = let z : _≡_ {A = ℕ} 0 1 = cc in omega arith
 
-  beats-then : (x : Option Refusal) (d : Due) → Beat ≡ stepOf x t published d → (x ≡ none) × ((d ≡ Nothing) × (leb 1000 (t - published) ≡ true))
-  beats-then (some q) d e = absurd (let z : _≡_ {A = ℕ} 0 1 = cc in omega arith)
-  beats-then none (At j f) e = absurd (let z : _≡_ {A = ℕ} 0 1 = cc in omega arith)
-  beats-then none Nothing e = (refl, (refl, go (leb 1000 (t - published)) e))
+  -- with no refusal and no row that is due, the time since the last publication decides
+  rests : (x : Option Refusal) (d : Due) (b : Bool) → cond b Beat Quiet ≡ stepOf x t published d → (x ≡ none) × ((d ≡ Nothing) × (leb 1000 (t - published) ≡ b))
+  rests (some q) d true e = absurd (let z : _≡_ {A = ℕ} 0 1 = cc in omega arith)
+  rests (some q) d false e = absurd (let z : _≡_ {A = ℕ} 0 1 = cc in omega arith)
+  rests none (At j f) true e = absurd (let z : _≡_ {A = ℕ} 0 1 = cc in omega arith)
+  rests none (At j f) false e = absurd (let z : _≡_ {A = ℕ} 0 1 = cc in omega arith)
+  rests none Nothing b e = (refl, (refl, go (leb 1000 (t - published)) b e))
     where
-      go : (b : Bool) → Beat ≡ cond b Beat Quiet → b ≡ true
-      go true e = refl
-      go false e = absurd (let z : _≡_ {A = ℕ} 0 1 = cc in omega arith)
-
-  quiet-then : (x : Option Refusal) (d : Due) → Quiet ≡ stepOf x t published d → (x ≡ none) × ((d ≡ Nothing) × (leb 1000 (t - published) ≡ false))
-  quiet-then (some q) d e = absurd (let z : _≡_ {A = ℕ} 0 1 = cc in omega arith)
-  quiet-then none (At j f) e = absurd (let z : _≡_ {A = ℕ} 0 1 = cc in omega arith)
-  quiet-then none Nothing e = (refl, (refl, go (leb 1000 (t - published)) e))
-    where
-      go : (b : Bool) → Quiet ≡ cond b Beat Quiet → b ≡ false
-      go true e = absurd (let z : _≡_ {A = ℕ} 0 1 = cc in omega arith)
-      go false e = refl
+      go : (c b : Bool) → cond b Beat Quiet ≡ cond c Beat Quiet → c ≡ b
+      go true true e = refl
+      go true false e = absurd (let z : _≡_ {A = ℕ} 0 1 = cc in omega arith)
+      go false true e = absurd (let z : _≡_ {A = ℕ} 0 1 = cc in omega arith)
+      go false false e = refl
 
 deed-keyed : (t published : ℕ) (keys : List Bytes) (d : Due) → deedOf t published (keyed keys d) ≡ deedAt t published keys d
 deed-keyed t published keys (At i e) = refl
 deed-keyed t published keys Nothing = refl
 
 -- ---- a Tick on a server
-abbrev pub SizedServer : Server → Type 0
-SizedServer s = Sized (s .table .«key_lengths») (s .table .«value_lengths») (s .numbers) (s .expiries)
-
 abbrev pub dueIn : Server → ℕ → Due
 dueIn s t = dueFrom 0 t (take (s .table .count) (s .expiries))
 
@@ -234,12 +178,11 @@ module _ (s : Server) (t room : ℕ) (z : SizedServer s) where
   deed-is : GoodServer s → t ≤ maxTick → deed (ledgerOf (view s)) t ≡ deedIn s t
   unfolding deed ledgerOf view
   deed-is g h =
-      let a : s .table .count ≤ length (s .table .«key_lengths») = omega (arith, g .count, z .key-lengths) in
       let b : s .table .count ≤ length (s .table .«value_lengths») = omega (arith, g .count, z .value-lengths) in
       let c : s .table .count ≤ length (s .numbers) = omega (arith, g .count, z .numbers) in
       let d : s .table .count ≤ length (s .expiries) = omega (arith, g .count, z .expiries) in
       ap (deedOf t (s .header .«last_published» .0))
-      (by-place t (s .table .count) (keysOf s) (s .table .values) (s .table .«value_lengths») (s .numbers) (s .expiries) h (length-texts 96 (s .table .count) (s .table .«key_lengths») a (s .table .keys)) b c d)
+      (by-place t (s .table .count) (keysOf s) (s .table .values) (s .table .«value_lengths») (s .numbers) (s .expiries) h (keys-long s z (g .count)) b c d)
       ∙ deed-keyed t (s .header .«last_published» .0) (keysOf s) (dueIn s t)
 
   calls-are : callChecks (ledgerOf (view s)) (tick t room)
@@ -318,14 +261,14 @@ module _ (s : Server) (T : Tick) (out : Bytes) (z : SizedServer s) {step : Step}
       refused-call s call out r reason
       (sym (refusal-in s (T .0) (length out) z) ∙ refuses (T .0) (s .header .«last_published» .0) reason (firstOf (illFormsOf s ++ checksIn s (T .0) (length out))) (dueIn s (T .0)) (sym e ∙ planned)) kept told
 
+  rest-known : (b : Bool) → step ≡ cond b Beat Quiet → (Passing s (T .0) (length out)) × (deedIn s (T .0) ≡ cond b beat quiet)
+  unfolding illFormsOf
+  rest-known b e =
+      let k = rests (T .0) (s .header .«last_published» .0) (firstOf (illFormsOf s ++ checksIn s (T .0) (length out))) (dueIn s (T .0)) b (sym e ∙ planned) in
+      (passing s (T .0) (length out) z (k .0), rw (k .1 .0, k .1 .1))
+
   -- a Tick with nothing to do
   module _ (e : step ≡ Quiet) where
-    quiet-known : (Passing s (T .0) (length out)) × (deedIn s (T .0) ≡ quiet)
-    unfolding illFormsOf
-    quiet-known =
-        let k = quiet-then (T .0) (s .header .«last_published» .0) (firstOf (illFormsOf s ++ checksIn s (T .0) (length out))) (dueIn s (T .0)) (sym e ∙ planned) in
-        (passing s (T .0) (length out) z (k .0), rw (k .1 .0, k .1 .1))
-
     pub tick-quiet : (a : Answer) → a ≡ answer (Silent (s .header .number)) 0
         → Answered s (tick (T .0) (length out)) out
         (record {
@@ -339,33 +282,17 @@ module _ (s : Server) (T : Tick) (out : Bytes) (z : SizedServer s) {step : Step}
         }) out
     unfolding tickBytes tickNext view put
     tick-quiet a told =
-        let p = quiet-known .0 in
-        accepted-tick s (T .0) (length out) out out _ quiet (p .refusal) (p .deed-is-in ∙ quiet-known .1) told refl refl
-        (server-good _
-        (record {
-          count = p .good .count;
-          key-lengths = p .good .key-lengths;
-          are-keys = p .good .are-keys;
-          rise = p .good .rise;
-          value-lengths = p .good .value-lengths;
-          are-below = p .good .are-below;
-          number = p .good .number;
-          published = omega (arith, p .good .published, p .later);
-          tick = p .in-range;
-          are-expiries = p .good .are-expiries;
-        }))
+        let k = rest-known false e in
+        let p = k .0 in
+        accepted-tick s (T .0) (length out) out out _ quiet (p .refusal) (p .deed-is-in ∙ k .1) told refl refl
+        (server-good _ (good-later (s .table .keys) (s .table .«key_lengths») (s .table .«value_lengths») (s .numbers) (s .expiries) (s .table .count) (s .header) (p .good) T (s .header .«last_published») (omega (arith, p .good .published, p .later)) (p .in-range)))
 
   -- a sign of life
   module _ (e : step ≡ Beat) where
-    beat-known : (Passing s (T .0) (length out)) × (deedIn s (T .0) ≡ beat)
-    unfolding illFormsOf
-    beat-known =
-        let k = beats-then (T .0) (s .header .«last_published» .0) (firstOf (illFormsOf s ++ checksIn s (T .0) (length out))) (dueIn s (T .0)) (sym e ∙ planned) in
-        (passing s (T .0) (length out) z (k .0), rw (k .1 .0, k .1 .1))
-
     beat-fits : 0 + length (bytesOf hugz) ≤ length out
     beat-fits =
-        let l = rw (beat-known .1) at (beat-known .0 .lets) in
+        let k = rest-known true e in
+        let l = rw (k .1) at (k .0 .lets) in
         let m = ltb-false (length out) (length (bytesOf hugz)) (passed 0 (deedChecks (s .header .number .0) beat (length out)) l) in
         omega (arith, m)
 
@@ -382,21 +309,10 @@ module _ (s : Server) (T : Tick) (out : Bytes) (z : SizedServer s) {step : Step}
         }) after
     unfolding tickBytes tickNext view
     tick-beat a w after written told =
-        let p = beat-known .0 in
-        accepted-tick s (T .0) (length out) out after _ beat (p .refusal) (p .deed-is-in ∙ beat-known .1) (told ∙ ap (answer (Wrote (s .header .number))) (place written beat-fits ∙ zero-add (length (bytesOf hugz)))) refl (output written beat-fits)
-        (server-good _
-        (record {
-          count = p .good .count;
-          key-lengths = p .good .key-lengths;
-          are-keys = p .good .are-keys;
-          rise = p .good .rise;
-          value-lengths = p .good .value-lengths;
-          are-below = p .good .are-below;
-          number = p .good .number;
-          published = omega arith;
-          tick = p .in-range;
-          are-expiries = p .good .are-expiries;
-        }))
+        let k = rest-known true e in
+        let p = k .0 in
+        accepted-tick s (T .0) (length out) out after _ beat (p .refusal) (p .deed-is-in ∙ k .1) (told ∙ ap (answer (Wrote (s .header .number))) (place written beat-fits ∙ zero-add (length (bytesOf hugz)))) refl (output written beat-fits)
+        (server-good _ (good-later (s .table .keys) (s .table .«key_lengths») (s .table .«value_lengths») (s .numbers) (s .expiries) (s .table .count) (s .header) (p .good) T T (omega arith) (p .in-range)))
 
   -- a row that expires
   module _ (i : ℕ) (e : step ≡ Expire i) where
@@ -419,7 +335,7 @@ module _ (s : Server) (T : Tick) (out : Bytes) (z : SizedServer s) {step : Step}
         (omega (arith, d .below, length-take (s .table .count) (s .expiries)), row-passes .good .count)
 
     row-key : (i < 64) × (getD (s .table .«key_lengths») i 0 ≤ 96)
-    row-key = (omega (arith, row-fits .0, row-fits .1), length-fits 96 (s .table .count) (s .table .«key_lengths») i (row-passes .good .key-lengths) (row-fits .0))
+    row-key = (omega (arith, row-fits .0, row-fits .1), fit-at 96 (s .table .count) (s .table .«key_lengths») (row-passes .good .key-lengths) i (row-fits .0))
 
     row-number : s .header .number .0 < maxSequence
     row-number =
@@ -449,23 +365,20 @@ module _ (s : Server) (T : Tick) (out : Bytes) (z : SizedServer s) {step : Step}
       }
 
       own-key : key ≡ getD (keysOf s) i []
-      own-key = key-is ∙ sym (text-there 96 (s .table .count) (s .table .«key_lengths») (s .table .keys) i (row-fits .0))
+      own-key = key-is ∙ sym (text-at 96 (s .table .count) (s .table .«key_lengths») (s .table .keys) i (row-fits .0))
 
       wrote : Written out 0 (expiry (suc (s .header .number .0)) (getD (keysOf s) i [])) w after
       unfolding expiry
       wrote = rw (ap (λ (q : Sequence). q .0) number-is, own-key) at written
 
-      keys-long : length (keysOf s) ≡ s .table .count
-      keys-long = length-texts 96 (s .table .count) (s .table .«key_lengths») (omega (arith, row-fits .1, z .key-lengths)) (s .table .keys)
-
-      held-long : length (heldOf s) ≡ s .table .count
-      held-long = entries-long (Remove i) (s .table .count) 0 0 0 0 keyCell valueCell (s .table .keys) (s .table .values) keys′ values′ (s .table .«key_lengths») (s .table .«value_lengths») (s .numbers) (s .expiries) kl′ vl′ ns′ es′ row-fits z c
+      long-keys : length (keysOf s) ≡ s .table .count
+      long-keys = keys-long s z (row-fits .1)
 
       rows-are : rowsOf (texts 96 count′ kl′ keys′) (entriesOf count′ values′ vl′ ns′ es′) ≡ removeRow (getD (keysOf s) i []) (rowsOf (keysOf s) (heldOf s))
       rows-are =
           rw count-is
           (rows-after (Remove i) (s .table .count) 0 0 0 0 keyCell valueCell (s .table .keys) (s .table .values) keys′ values′ (s .table .«key_lengths») (s .table .«value_lengths») (s .numbers) (s .expiries) kl′ vl′ ns′ es′ row-fits z c)
-          ∙ removed-at (keysOf s) (heldOf s) i (keys-long ∙ sym held-long) (row-passes .good .rise) (omega (arith, keys-long, row-fits .0))
+          ∙ removed-at (keysOf s) (heldOf s) i (as-long s z (row-fits .1)) (row-passes .good .rise) (omega (arith, long-keys, row-fits .0))
 
       next-is : view state′ ≡ tickNext (view s) (expire (getD (keysOf s) i [])) (T .0)
       unfolding view tickNext
@@ -476,7 +389,7 @@ module _ (s : Server) (T : Tick) (out : Bytes) (z : SizedServer s) {step : Step}
           rw (count-is, number-is)
           (good-after (Remove i) (s .table .count) 0 0 0 0 keyCell valueCell (s .table .keys) (s .table .values) keys′ values′ (s .table .«key_lengths») (s .table .«value_lengths») (s .numbers) (s .expiries) kl′ vl′ ns′ es′ row-fits z c
           (s .header) (record { number = sequence (suc (s .header .number .0)); «last_tick» = T; «last_published» = T }) (row-passes .good)
-          (λ q. absurd (never q)) (λ q. absurd (never q)) (rising-removed-at (keysOf s) i (row-passes .good .rise) (omega (arith, keys-long, row-fits .0))) (λ q. absurd (never q)) (λ q. absurd (never q)) (λ q. absurd (never q))
+          (λ q. absurd (never q)) (λ q. absurd (never q)) (rising-removed-at (keysOf s) i (row-passes .good .rise) (omega (arith, long-keys, row-fits .0))) (λ q. absurd (never q)) (λ q. absurd (never q)) (λ q. absurd (never q))
           (omega arith) (omega (arith, row-number)) (omega arith) (row-passes .in-range))
         where
           never : false ≡ true → ⊥

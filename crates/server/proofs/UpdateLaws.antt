@@ -1,36 +1,37 @@
 -- What an accepted KVSET makes of a server: the update in every column is the update of the ledger, and the state stays well-formed.
 -- Assumes nothing.
-use Prim.Native.Nat.{ℕ, zero, suc, _+_, _≤_, _<_}
+use Prim.Native.Nat.{ℕ, suc, _+_, _≤_, _<_}
 use native.Mathlib.Nat.{zero-add}
 use native.Mathlib.Omega.{arith}
 use mathlib.Core.Bool.{Bool, true, false, not, cond, _&&_}
-use mathlib.Core.List.{List, [], _∷_, _++_}
-use mathlib.Core.Option.{Option, none, some}
+use mathlib.Core.List.{List, _++_}
+use mathlib.Core.Option.{Option, none}
 use mathlib.Core.Path.{_≡_, refl, sym, ap, _∙_}
-use lib.Dec.{leb, ltb, eqb}
+use lib.Dec.{leb}
 use lib.ListN.{length, take}
-use borrow.Author.Tests.{leb-true, leb-false, ltb-true, ltb-false, eqb-false, le-leb, not-false}
+use borrow.Author.Tests.{leb-true, leb-false, ltb-false, eqb-false, le-leb, not-false}
 use Rattle.answers.specs.Answers.{answer}
 use Rattle.answers.specs.declared.answer.Kind.the-variants.{Wrote}
 use Rattle.answers.specs.declared.refusal.Refusal.{Refusal}
-use Rattle.base.proofs.ByteLaws.{and-left, and-right, some-bytes}
-use Rattle.base.proofs.CheckLaws.{passed, pass-all, testOf}
+use Rattle.base.proofs.ByteLaws.{some-bytes}
+use Rattle.base.proofs.CheckLaws.{passed, pass-all, both-passed, testOf}
 use Rattle.base.proofs.OutputLaws.{output, place}
 use Rattle.base.specs.Bytes.{Bytes, isNil}
 use Rattle.base.specs.Checks.{Check, firstOf}
 use Rattle.base.specs.Output.{put, Written}
 use Rattle.frames.specs.Messages.{bodyAt}
-use Rattle.messages.specs.Fields.{Fields, frameAt, fieldsOf}
+use Rattle.messages.specs.Fields.{frameAt, fieldsOf}
+use Rattle.names.proofs.UnderLaws.{key-short as key-most}
 use Rattle.names.specs.Keys.{isKey}
 use Rattle.names.specs.Numbers.{sequence, maxSequence, maxTick}
 use Rattle.ports.proofs.PortLaws.{frame-is}
 use Rattle.ports.specs.Ports.{framed, kvsetChecks, kvsetPort}
 use Rattle.properties.specs.Properties.{propertiesOf}
 use Rattle.rows.proofs.RowLaws.{map-hasKey, map-length}
-use Rattle.rows.specs.Rows.{Rows, hasKey, mapRows, setRow, removeRow, rising}
-use Rattle.server.proofs.AnswerLaws.{both-passed, accepted-call, refusal-is}
+use Rattle.rows.specs.Rows.{hasKey, mapRows, setRow, removeRow}
+use Rattle.server.proofs.AnswerLaws.{accepted-call, refusal-is}
 use Rattle.server.specs.Answers.{acceptedKind}
-use Rattle.server.specs.Calls.{Call, kvset}
+use Rattle.server.specs.Calls.{kvset}
 use Rattle.server.specs.Next.{expiryAt, kvsetNext, acceptedNext}
 use Rattle.server.specs.Output.{acceptedBytes}
 use Rattle.server.specs.Plans.{isFound}
@@ -38,47 +39,31 @@ use Rattle.server.specs.Promises.{Answered}
 use Rattle.server.specs.Refusals.{update, tickChecks, updateChecks, callChecks, refusalOf}
 use Rattle.server.specs.Start.{headerAt}
 use Rattle.server.specs.declared.Reply.{Reply}
-use Rattle.state.proofs.FormLaws.{Good, GoodServer, good-server, server-good}
-use Rattle.state.proofs.SnapshotLaws.{length-entries}
-use Rattle.state.proofs.StateLaws.{Sized, Columns, rows-after, good-after}
+use Rattle.state.proofs.FormLaws.{GoodServer, good-server, server-good}
+use Rattle.state.proofs.StateLaws.{SizedServer, Columns, keys-long, as-long, rows-long, rows-after, good-after}
 use Rattle.state.specs.IllFormed.{illFormsOf, isExpiry, WellFormed}
-use Rattle.state.specs.Views.{Held, Entry, Ledger, entry, stamp, expiryIn, keysOf, heldOf, plain, view, ledgerOf}
+use Rattle.state.specs.Views.{Entry, entry, stamp, expiryIn, keysOf, heldOf, plain, view, ledgerOf}
 use Rattle.state.specs.declared.Server.{Server}
-use Rattle.table.proofs.ChangeLaws.{stores, length-zip}
+use Rattle.table.proofs.ChangeLaws.{stores}
 use Rattle.table.proofs.FindLaws.{has-key, lacks-key, changed-removes, changed-sets, change-fits, rising-changed}
-use Rattle.table.proofs.TextLaws.{length-texts}
 use Rattle.table.specs.Changes.{changed, countAfter, Fits}
-use Rattle.table.specs.Columns.{row, rowsOf, within}
+use Rattle.table.specs.Columns.{rowsOf, within}
 use Rattle.table.specs.Find.{placeOf, changeTo}
 use Rattle.table.specs.declared.change.Change.{Change}
 use Rattle.table.specs.declared.find.Found.the-variants.{At, Missing}
 use Rattle.table.specs.declared.find.Found.{Found}
 
-abbrev pub SizedServer : Server → Type 0
-SizedServer s = Sized (s .table .«key_lengths») (s .table .«value_lengths») (s .numbers) (s .expiries)
-
 module _ (s : Server) (z : SizedServer s) (g : GoodServer s) where
-  keys-long : length (keysOf s) ≡ s .table .count
-  keys-long = length-texts 96 (s .table .count) (s .table .«key_lengths») (omega (arith, z .key-lengths, g .count)) (s .table .keys)
-
-  held-long : length (heldOf s) ≡ s .table .count
-  held-long =
-      length-entries (s .table .count) (s .table .values) (s .table .«value_lengths») (s .numbers) (s .expiries) (omega (arith, z .value-lengths, g .count)) (omega (arith, z .numbers, g .count)) (omega (arith, z .expiries, g .count))
-
-  as-long : length (keysOf s) ≡ length (heldOf s)
-  as-long = keys-long ∙ sym held-long
-
   -- a key is held if it is found
   held-is : (k : Bytes) → hasKey k (mapRows plain (rowsOf (keysOf s) (heldOf s))) ≡ isFound (placeOf 0 k (keysOf s))
   held-is k = map-hasKey plain k (rowsOf (keysOf s) (heldOf s)) ∙ go (placeOf 0 k (keysOf s)) refl
     where
       go : (x : Found) → placeOf 0 k (keysOf s) ≡ x → hasKey k (rowsOf (keysOf s) (heldOf s)) ≡ isFound x
-      go (At i) e = has-key k (keysOf s) (heldOf s) as-long i e
-      go (Missing i) e = lacks-key k (keysOf s) (heldOf s) as-long (g .rise) i e
+      go (At i) e = has-key k (keysOf s) (heldOf s) (as-long s z (g .count)) i e
+      go (Missing i) e = lacks-key k (keysOf s) (heldOf s) (as-long s z (g .count)) (g .rise) i e
 
-  rows-long : length (mapRows plain (rowsOf (keysOf s) (heldOf s))) ≡ s .table .count
-  unfolding rowsOf
-  rows-long = map-length plain (rowsOf (keysOf s) (heldOf s)) ∙ length-zip row (s .table .count) (keysOf s) (heldOf s) keys-long held-long
+  held-count : length (mapRows plain (rowsOf (keysOf s) (heldOf s))) ≡ s .table .count
+  held-count = map-length plain (rowsOf (keysOf s) (heldOf s)) ∙ rows-long s z (g .count)
 
 -- the checks of a KVSET behind that of the state, as they are made over the columns
 abbrev pub kvsetTable : Server → Bytes → ℕ → ℕ → List (Check Refusal)
@@ -89,7 +74,7 @@ kvset-table : (s : Server) → SizedServer s → (msg : Bytes) (t room : ℕ) �
 unfolding callChecks ledgerOf view
 kvset-table s z msg t room w =
     let g = good-server s w in
-    rw (held-is s z g (frameAt 0 msg), rows-long s z g)
+    rw (held-is s z g (frameAt 0 msg), held-count s z g)
 
 pub kvset-refusal : (s : Server) → SizedServer s → (msg : Bytes) (t room : ℕ) → firstOf (illFormsOf s ++ kvsetTable s msg t room) ≡ refusalOf s (kvset msg t room)
 kvset-refusal s z msg t room = refusal-is s (kvset msg t room) (kvsetTable s msg t room) (kvset-table s z msg t room)
@@ -121,8 +106,7 @@ module _ (s : Server) (z : SizedServer s) (msg : Bytes) (t room : ℕ) (e : firs
   key-good = not-false _ (test 2)
 
   pub key-short : length (frameAt 0 msg) ≤ 96
-  unfolding isKey
-  key-short = leb-true (length (frameAt 0 msg)) 96 (and-left (leb (length (frameAt 0 msg)) 96) _ key-good)
+  key-short = key-most (frameAt 0 msg) key-good
 
   pub value-short : length (frameAt 4 msg) ≤ 256
   value-short = leb-true (length (frameAt 4 msg)) 256 (not-false _ (test 6))
@@ -140,26 +124,14 @@ module _ (s : Server) (z : SizedServer s) (msg : Bytes) (t room : ℕ) (e : firs
   in-time = leb-true t maxTick (not-false _ (test 7))
 
   pub number-left : s .header .number .0 < maxSequence
-  number-left =
-      let h = eqb-false (s .header .number .0) maxSequence (test 10) in
-      less (s .header .number .0) maxSequence (good .number) h
-    where
-      less : (a b : ℕ) → a ≤ b → (a ≡ b → ⊥) → a < b
-      less a b l d = go (ltb a b) refl
-        where
-          go : (x : Bool) → ltb a b ≡ x → a < b
-          go true f = ltb-true a b f
-          go false f = absurd (d (omega (arith, ltb-false a b f)))
+  number-left = omega (arith, good .number, eqb-false (s .header .number .0) maxSequence (test 10))
 
   pub has-room : length (update (suc (s .header .number .0)) (fieldsOf msg)) ≤ room
   has-room = ltb-false room (length (update (suc (s .header .number .0)) (fieldsOf msg))) (test 11)
 
-  removes : Bool
-  removes = isNil (frameAt 4 msg)
-
   pub change-is-fit : Fits (changeTo (isNil (frameAt 4 msg)) (placeOf 0 (frameAt 0 msg) (keysOf s))) (s .table .count)
   change-is-fit =
-      change-fits (frameAt 0 msg) (keysOf s) (heldOf s) (as-long s z good) (s .table .count) (keys-long s z good) (isNil (frameAt 4 msg)) (good .rise) (good .count) below
+      change-fits (frameAt 0 msg) (keysOf s) (heldOf s) (as-long s z (good .count)) (s .table .count) (keys-long s z (good .count)) (isNil (frameAt 4 msg)) (good .rise) (good .count) below
     where
       few : (nil found : Bool) → (not nil && (not found && leb 64 (s .table .count))) ≡ false → nil ≡ false → found ≡ false → s .table .count < 64
       few true found h p q = absurd (let z : _≡_ {A = ℕ} 0 1 = cc in omega arith)
@@ -178,8 +150,8 @@ module _ (s : Server) (z : SizedServer s) (msg : Bytes) (t room : ℕ) (e : firs
   -- what the change makes of the rows
   updated : (nil : Bool) → changed (changeTo nil (placeOf 0 (frameAt 0 msg) (keysOf s))) (frameAt 0 msg, new) (rowsOf (keysOf s) (heldOf s))
       ≡ cond nil (removeRow (frameAt 0 msg) (rowsOf (keysOf s) (heldOf s))) (setRow (frameAt 0 msg) new (rowsOf (keysOf s) (heldOf s)))
-  updated true = changed-removes (frameAt 0 msg) (keysOf s) (heldOf s) (as-long s z good) new
-  updated false = changed-sets (frameAt 0 msg) (keysOf s) (heldOf s) (as-long s z good) new
+  updated true = changed-removes (frameAt 0 msg) (keysOf s) (heldOf s) (as-long s z (good .count)) new
+  updated false = changed-sets (frameAt 0 msg) (keysOf s) (heldOf s) (as-long s z (good .count)) new
 
   -- the columns after the change: the cells of the fresh row, its lengths, the new number and the expiry
   module _ (made : Change) (made-is : made ≡ changeTo (isNil (frameAt 4 msg)) (placeOf 0 (frameAt 0 msg) (keysOf s))) {k v expiry written : ℕ} {keyCell valueCell out after : Bytes} (r : Reply)

@@ -2,7 +2,7 @@
 use Prim.Native.Nat.{ℕ, suc, _+_, _*_}
 use mathlib.Core.Bool.{cond}
 use mathlib.Core.Option.{Option, none, some}
-use Rattle.base.specs.Bytes.{Bytes, isNil}
+use Rattle.base.specs.Bytes.{isNil}
 use Rattle.messages.specs.Fields.{Fields, fieldsOf}
 use Rattle.properties.specs.Properties.{propertiesOf}
 use Rattle.properties.specs.declared.read.Lifetime.the-variants.{Unlimited, Seconds}

@@ -2,7 +2,7 @@
 -- how many rows are due. Assumes nothing.
 use Prim.Native.Nat.{ℕ, suc, _+_, _≤_, _<_}
 use native.Mathlib.Omega.{arith}
-use mathlib.Core.Bool.{Bool, true, false, cond, _&&_, _||_}
+use mathlib.Core.Bool.{Bool, true, false, cond, _&&_}
 use mathlib.Core.List.{List, [], _∷_, map, zipWith}
 use mathlib.Core.Logic.{_⊎_, inl, inr}
 use mathlib.Core.Option.{Option, none, some}
@@ -11,21 +11,19 @@ use lib.Dec.{leb, ltb, eqb}
 use lib.ListN.{length, getD, take, drop, drop-of-length-le}
 use lib.Seq.{drop-cons, getD-take, length-take-le}
 use borrow.Author.Tests.{ltb-true, ltb-false, leb-true, leb-false, lt-ltb, le-ltb, le-leb, lt-leb, ne-eqb}
-use Rattle.base.proofs.ByteLaws.{and-left, and-right, same-refl}
-use Rattle.base.specs.Bytes.{Bytes, every, same}
-use Rattle.cells.proofs.CellLaws.{length-cells}
-use Rattle.cells.specs.Cells.{cells}
+use Rattle.base.proofs.ByteLaws.{and-left, and-right}
+use Rattle.base.specs.Bytes.{Bytes, every}
 use Rattle.names.proofs.OrderLaws.{order-self, order-flip, flipped}
 use Rattle.names.specs.Numbers.{maxTick}
 use Rattle.names.specs.Order.{orderOf}
 use Rattle.names.specs.declared.order.Order.the-variants.{Less, Equal, Greater}
 use Rattle.names.specs.declared.order.Order.{Order}
-use Rattle.rows.specs.Rows.{Rows, removeRow, keysIn, hasKey, Above, Sorted, mapRows}
+use Rattle.rows.specs.Rows.{Rows, removeRow, keysIn, Above, Sorted, mapRows}
+use Rattle.state.proofs.StateLaws.{length-stamps}
 use Rattle.state.specs.Due.{sooner, leastDue, before, earlier, dueFrom}
 use Rattle.state.specs.Views.{Held, Entry, never, expiryIn, stamp, entry, entriesOf, plain}
 use Rattle.state.specs.declared.due.Due.the-variants.{At, Nothing}
 use Rattle.state.specs.declared.due.Due.{Due}
-use Rattle.table.proofs.ChangeLaws.{length-zip}
 use Rattle.table.proofs.TextLaws.{length-texts}
 use Rattle.table.specs.Columns.{texts, rowsOf}
 
@@ -159,7 +157,7 @@ abbrev pub expires : Entry → Option ℕ
 expires h = h .expiry
 
 -- the row that goes is the one at the place that is due
-pub by-places : (t : ℕ) (keys : List Bytes) (es : List ℕ) (held : List Entry) → t ≤ maxTick → length keys ≡ length es
+by-places : (t : ℕ) (keys : List Bytes) (es : List ℕ) (held : List Entry) → t ≤ maxTick → length keys ≡ length es
     → map expires held ≡ map expiryIn es → leastDue t (mapRows plain (rowsOf keys held)) ≡ keyed keys (dueFrom 0 t es)
 unfolding leastDue mapRows rowsOf zipWith plain dueFrom
 by-places t [] [] held late n q = refl
@@ -186,39 +184,21 @@ abbrev stamped : ℕ × ℕ → Option ℕ
 stamped s = expiryIn (s .1)
 
 -- what entries expire at is what the column of expiries says
-pub entries-expire : (n : ℕ) (values : Bytes) (lens numbers expiries : List ℕ) → n ≤ length lens → n ≤ length numbers → n ≤ length expiries
+entries-expire : (n : ℕ) (values : Bytes) (lens numbers expiries : List ℕ) → n ≤ length lens → n ≤ length numbers → n ≤ length expiries
     → map expires (entriesOf n values lens numbers expiries) ≡ map expiryIn (take n expiries)
 unfolding entriesOf
 entries-expire n values lens numbers expiries a b c =
-    let p = length-take-le n numbers b in
-    let q = length-take-le n expiries c in
-    let m = length-zip stamp n (take n numbers) (take n expiries) p q in
-    map-zip entry expires stamped (λ v s. refl) (texts 256 n lens values) (zipWith stamp (take n numbers) (take n expiries)) (length-texts 256 n lens a values ∙ sym m)
-    ∙ map-zip stamp stamped expiryIn (λ v s. refl) (take n numbers) (take n expiries) (p ∙ sym q)
+    map-zip entry expires stamped (λ v s. refl) (texts 256 n lens values) (zipWith stamp (take n numbers) (take n expiries))
+    (length-texts 256 n lens a values ∙ sym (length-stamps n numbers expiries b c))
+    ∙ map-zip stamp stamped expiryIn (λ v s. refl) (take n numbers) (take n expiries) (length-take-le n numbers b ∙ sym (length-take-le n expiries c))
 
--- the row at place i is the one that goes
-pub record GoesAt (t n : ℕ) (keys : List Bytes) (rows : Rows Held) (expiries : List ℕ) (i e : ℕ) : Type 0 where
-  pub below : i < n
-  pub expiry : getD expiries i 0 ≡ e
-  pub due : e < t
-  pub least : leastDue t rows ≡ some (getD keys i [], e)
-
-module _ (t n : ℕ) (keys : List Bytes) (values : Bytes) (lens numbers expiries : List ℕ) (late : t ≤ maxTick) (k : length keys ≡ n)
-    (a : n ≤ length lens) (b : n ≤ length numbers) (c : n ≤ length expiries) where
-  pub by-place : leastDue t (mapRows plain (rowsOf keys (entriesOf n values lens numbers expiries))) ≡ keyed keys (dueFrom 0 t (take n expiries))
-  by-place =
-      by-places t keys (take n expiries) (entriesOf n values lens numbers expiries) late (k ∙ sym (length-take-le n expiries c))
-      (entries-expire n values lens numbers expiries a b c)
-
-  pub goes-at : (i e : ℕ) → dueFrom 0 t (take n expiries) ≡ At i e
-      → GoesAt t n keys (mapRows plain (rowsOf keys (entriesOf n values lens numbers expiries))) expiries i e
-  goes-at i e q =
-      let d = due-at t (take n expiries) i e q in
-      let l : i < n = omega (arith, d .below, length-take-le n expiries c) in
-      record { below = l; expiry = sym (getD-take n expiries i 0 l) ∙ d .expiry; due = d .due; least = by-place ∙ ap (keyed keys) q }
-
-  pub none-goes : dueFrom 0 t (take n expiries) ≡ Nothing → leastDue t (mapRows plain (rowsOf keys (entriesOf n values lens numbers expiries))) ≡ none
-  none-goes q = by-place ∙ ap (keyed keys) q
+-- the row that goes is the one at the place that is due, by the columns
+pub by-place : (t n : ℕ) (keys : List Bytes) (values : Bytes) (lens numbers expiries : List ℕ) → t ≤ maxTick → length keys ≡ n
+    → n ≤ length lens → n ≤ length numbers → n ≤ length expiries
+    → leastDue t (mapRows plain (rowsOf keys (entriesOf n values lens numbers expiries))) ≡ keyed keys (dueFrom 0 t (take n expiries))
+by-place t n keys values lens numbers expiries late k a b c =
+    by-places t keys (take n expiries) (entriesOf n values lens numbers expiries) late (k ∙ sym (length-take-le n expiries c))
+    (entries-expire n values lens numbers expiries a b c)
 
 -- ---- what the row that goes is
 -- r is one of some rows
@@ -312,22 +292,6 @@ least-due t rows k e h = subst (Told t rows) h (told t rows)
 
 pub none-due : (t : ℕ) (rows : Rows Held) → leastDue t rows ≡ none → NoneDue t rows
 none-due t rows h = subst (Told t rows) h (told t rows)
-
--- its key is held
-among-held : (r : Bytes × Held) (l : Rows Held) → Among r l → hasKey (r .0) l ≡ true
-unfolding hasKey
-among-held r [] m = absurd m
-among-held r (q ∷ l) (inl e) = rw (ap (λ (x : Bytes × Held). same (r .0) (x .0)) (sym e) ∙ same-refl (r .0))
-among-held r (q ∷ l) (inr m) = go (same (r .0) (q .0)) (among-held r l m)
-  where
-    go : (b : Bool) → hasKey (r .0) l ≡ true → (b || hasKey (r .0) l) ≡ true
-    go true h = refl
-    go false h = h
-
-pub due-held : (t : ℕ) (rows : Rows Held) (k : Bytes) (e : ℕ) → leastDue t rows ≡ some (k, e) → hasKey k rows ≡ true
-due-held t rows k e h =
-    let d = least-due t rows k e h in
-    among-held (k, d .held) rows (d .among)
 
 -- what holds of every key holds of its key
 among-every : (test : Bytes → Bool) (r : Bytes × Held) (l : Rows Held) → every test (keysIn l) ≡ true → Among r l → test (r .0) ≡ true

@@ -1,12 +1,12 @@
 -- What a well-formed state is known to have, and what is to be shown of one. Assumes nothing.
-use Prim.Native.Nat.{ℕ, zero, suc, _≤_, _<_}
+use Prim.Native.Nat.{ℕ, _≤_}
 use native.Mathlib.Omega.{arith}
-use mathlib.Core.Bool.{Bool, true, false, not, _&&_, _||_}
+use mathlib.Core.Bool.{Bool, true}
 use mathlib.Core.List.{List, [], _∷_}
 use mathlib.Core.Option.{none}
-use mathlib.Core.Path.{_≡_, refl, sym, ap, _∙_}
-use lib.Dec.{leb, ltb}
-use lib.ListN.{length, take}
+use mathlib.Core.Path.{_≡_, refl}
+use lib.Dec.{leb}
+use lib.ListN.{take}
 use borrow.Author.Tests.{le-ltb, ltb-false, le-leb, leb-true, not-false}
 use Rattle.base.proofs.ByteLaws.{and-left, and-right}
 use Rattle.base.proofs.CheckLaws.{passed}
@@ -14,6 +14,7 @@ use Rattle.base.specs.Bytes.{Bytes, every}
 use Rattle.base.specs.Checks.{firstOf}
 use Rattle.names.specs.Keys.{isKey}
 use Rattle.names.specs.Numbers.{maxSequence, maxTick}
+use Rattle.names.specs.declared.numbers.Tick.{Tick}
 use Rattle.rows.specs.Rows.{rising}
 use Rattle.state.specs.IllFormed.{illForms, illFormsOf, isExpiry, WellFormed}
 use Rattle.state.specs.declared.Header.{Header}
@@ -57,6 +58,22 @@ module _ (keys : Bytes) (kl vl ns es : List ℕ) (n : ℕ) (h : Header) where
   unfolding firstOf
   columns-good g =
       rw (le-ltb 64 n (g .count), g .key-lengths, g .are-keys, g .rise, g .value-lengths, g .are-below, le-ltb maxSequence (h .number .0) (g .number), le-ltb (h .«last_tick» .0) (h .«last_published» .0) (g .published), le-ltb maxTick (h .«last_tick» .0) (g .tick), g .are-expiries)
+
+  -- the columns and the number kept, other times
+  pub good-later : Good keys kl vl ns es n h → (last published : Tick) → published .0 ≤ last .0 → last .0 ≤ maxTick
+      → Good keys kl vl ns es n (record { number = h .number; «last_tick» = last; «last_published» = published })
+  good-later g last published p t = record {
+    count = g .count;
+    key-lengths = g .key-lengths;
+    are-keys = g .are-keys;
+    rise = g .rise;
+    value-lengths = g .value-lengths;
+    are-below = g .are-below;
+    number = g .number;
+    published = p;
+    tick = t;
+    are-expiries = g .are-expiries;
+  }
 
 pub good-server : (s : Server) → WellFormed s → GoodServer s
 unfolding illFormsOf

@@ -1,19 +1,18 @@
 -- Laws of snapshots: what one row more adds, how long they are by the lengths of what they hold, and the most that they take. Assumes nothing.
-use Prim.Native.Nat.{ℕ, zero, suc, _+_, _-_, _*_, _≤_, _<_, min}
+use Prim.Native.Nat.{ℕ, zero, suc, _+_, _*_, _≤_, _<_, min}
 use native.Mathlib.Nat.{add-assoc}
 use native.Mathlib.Omega.{arith}
-use mathlib.Core.Bool.{Bool, true, false, cond, _&&_, and-false}
+use mathlib.Core.Bool.{Bool, true, false, cond}
 use mathlib.Core.List.{List, [], _∷_, _++_, append-assoc, append-nil, map, zipWith}
 use mathlib.Core.Path.{_≡_, refl, sym, ap, _∙_}
-use lib.Dec.{leb, ltb, eqb}
+use lib.Dec.{ltb}
 use lib.ListN.{length, getD, take, drop, drop-of-length-le, length-append, length-take, length-drop, length-map, take-append-drop, List·getD-map}
-use lib.Seq.{getD-take, length-take-le, take-add, take-all, take-length, take-suc, ext-getD}
-use borrow.Author.Tests.{ltb-true, ltb-false, eqb-true, leb-true}
-use Rattle.base.proofs.ByteLaws.{and-left, and-right, prefix-longer, same-prefix, same-eq}
+use lib.Seq.{getD-take, length-take-le, take-add, take-all, ext-getD}
+use borrow.Author.Tests.{ltb-true, ltb-false}
+use Rattle.base.proofs.ByteLaws.{and-left, and-right}
 use Rattle.base.proofs.OctetLaws.{length-octets}
 use Rattle.base.proofs.OutputLaws.{clamped-sum, wrote, both, room}
-use Rattle.base.specs.Bytes.{Bytes, isNil, every}
-use Rattle.base.specs.Cuts.{onFirst, pieces}
+use Rattle.base.specs.Bytes.{Bytes, every}
 use Rattle.base.specs.Output.{put, Written, largest}
 use Rattle.cells.specs.Cells.{cells, cellAt, All}
 use Rattle.frames.proofs.FrameLaws.{frame-length}
@@ -21,11 +20,18 @@ use Rattle.frames.specs.Messages.{frameLength}
 use Rattle.messages.proofs.LengthLaws.{kvsync-bound, kthxbai-bound}
 use Rattle.messages.proofs.WriteLaws.{bytes-length}
 use Rattle.messages.specs.Fields.{bytesOf, kvsync, kthxbai, identityFrame, messageLength}
-use Rattle.names.specs.Keys.{isName, slashed, isKey, isSubtree, under}
+use Rattle.names.proofs.UnderLaws.{key-short, subtree-short, key-longer}
+use Rattle.names.specs.Keys.{isKey, isSubtree, under}
+use Rattle.rows.proofs.RowLaws.{length-keep}
 use Rattle.rows.specs.Rows.{Rows, keep, mapRows}
+use Rattle.state.proofs.FormLaws.{good-server}
+use Rattle.state.proofs.StateLaws.{SizedServer, length-stamps, length-entries, rows-long}
+use Rattle.state.specs.IllFormed.{WellFormed}
 use Rattle.state.specs.Snapshots.{joined, sync, thanks, syncs, snapshotBytes, sum, syncLength, snapshotLength}
-use Rattle.state.specs.Views.{Entry, entry, stamp, entriesOf}
+use Rattle.state.specs.Views.{Entry, entry, stamp, entriesOf, keysOf, heldOf}
+use Rattle.state.specs.declared.Server.{Server}
 use Rattle.table.proofs.ChangeLaws.{getD-zip, length-zip, drop-rows}
+use Rattle.table.proofs.FindLaws.{map-rows}
 use Rattle.table.proofs.TextLaws.{text-at, length-texts, fit-at}
 use Rattle.table.specs.Columns.{texts, row, rowsOf, lengthsFit}
 
@@ -162,29 +168,17 @@ entryRows n keys keyLengths values lengths numbers expiries =
     rowsOf (texts 96 n keyLengths keys) (entriesOf n values lengths numbers expiries)
 
 module _ (n : ℕ) (values lengths numbers expiries : List ℕ) (a : n ≤ length lengths) (b : n ≤ length numbers) (d : n ≤ length expiries) where
-  length-stamps : length (zipWith stamp (take n numbers) (take n expiries)) ≡ n
-  length-stamps =
-      let g = length-take-le n numbers b in
-      let h = length-take-le n expiries d in
-      length-zip stamp n (take n numbers) (take n expiries) g h
-
-  pub length-entries : length (entriesOf n values lengths numbers expiries) ≡ n
-  unfolding entriesOf
-  length-entries =
-      let g = length-texts 256 n lengths a values in
-      length-zip entry n (texts 256 n lengths values) (zipWith stamp (take n numbers) (take n expiries)) g length-stamps
-
   entry-at : (i : ℕ) → i < n → getD (entriesOf n values lengths numbers expiries) i (entry [] (stamp 0 0))
       ≡ entry (valueAt values lengths i) (stamp (getD numbers i 0) (getD expiries i 0))
   unfolding entriesOf
   entry-at i h =
       let f : i < length (texts 256 n lengths values) = rw (length-texts 256 n lengths a values) h in
-      let g : i < length (zipWith stamp (take n numbers) (take n expiries)) = rw length-stamps h in
+      let g : i < length (zipWith stamp (take n numbers) (take n expiries)) = rw (length-stamps n numbers expiries b d) h in
       let k : i < length (take n numbers) = rw (length-take-le n numbers b) h in
       let l : i < length (take n expiries) = rw (length-take-le n expiries d) h in
       getD-zip entry (texts 256 n lengths values) (zipWith stamp (take n numbers) (take n expiries)) i [] (stamp 0 0) (entry [] (stamp 0 0)) f g
       ∙ rw
-      (text-at 256 n lengths a values i h, getD-zip stamp (take n numbers) (take n expiries) i 0 0 (stamp 0 0) k l, getD-take n numbers i 0 h, getD-take n expiries i 0 h)
+      (text-at 256 n lengths values i h, getD-zip stamp (take n numbers) (take n expiries) i 0 0 (stamp 0 0) k l, getD-take n numbers i 0 h, getD-take n expiries i 0 h)
 
 module _ (n : ℕ) (keys keyLengths lengths : List ℕ) (few : n ≤ length keyLengths) (fits : n ≤ length lengths) where
   pub length-rows : length (lengthRows n keys keyLengths lengths) ≡ n
@@ -202,14 +196,14 @@ module _ (n : ℕ) (keys keyLengths lengths : List ℕ) (few : n ≤ length keyL
       let a : j < length (texts 96 n keyLengths keys) = rw (length-texts 96 n keyLengths few keys) g in
       let b : j < length (take n lengths) = rw (length-take-le n lengths fits) g in
       drop-rows row (texts 96 n keyLengths keys) (take n lengths) j [] 0 a b
-      ∙ rw (text-at 96 n keyLengths few keys j g, getD-take n lengths j 0 g, e, k, l)
+      ∙ rw (text-at 96 n keyLengths keys j g, getD-take n lengths j 0 g, e, k, l)
 
   module _ (values numbers expiries : List ℕ) (b : n ≤ length numbers) (d : n ≤ length expiries) where
     pub length-entry-rows : length (entryRows n keys keyLengths values lengths numbers expiries) ≡ n
     unfolding rowsOf
     length-entry-rows =
         let a = length-texts 96 n keyLengths few keys in
-        length-zip row n (texts 96 n keyLengths keys) (entriesOf n values lengths numbers expiries) a (length-entries n values lengths numbers expiries fits b d)
+        length-zip row n (texts 96 n keyLengths keys) (entriesOf n values lengths numbers expiries) a (length-entries n numbers expiries b d values lengths fits)
 
     pub entry-row : (i : ℕ) → i < n → {key value : Bytes} → key ≡ keyAt keys keyLengths i → value ≡ valueAt values lengths i
         → drop i (entryRows n keys keyLengths values lengths numbers expiries)
@@ -217,9 +211,9 @@ module _ (n : ℕ) (keys keyLengths lengths : List ℕ) (few : n ≤ length keyL
     unfolding rowsOf
     entry-row i h {key} {value} k v =
         let a : i < length (texts 96 n keyLengths keys) = rw (length-texts 96 n keyLengths few keys) h in
-        let g : i < length (entriesOf n values lengths numbers expiries) = rw (length-entries n values lengths numbers expiries fits b d) h in
+        let g : i < length (entriesOf n values lengths numbers expiries) = rw (length-entries n numbers expiries b d values lengths fits) h in
         drop-rows row (texts 96 n keyLengths keys) (entriesOf n values lengths numbers expiries) i [] (entry [] (stamp 0 0)) a g
-        ∙ rw (text-at 96 n keyLengths few keys i h, entry-at n values lengths numbers expiries fits b d i h, k, v)
+        ∙ rw (text-at 96 n keyLengths keys i h, entry-at n values lengths numbers expiries fits b d i h, k, v)
 
 -- ---- how long a snapshot is, by the lengths
 abbrev valueLength : Entry → ℕ
@@ -262,12 +256,6 @@ module _ (identity subtree : Bytes) where
       length-append (syncs identity subtree rows) (thanks identity number subtree) ∙ rw (thanks-length identity number subtree) (syncs-length rows)
 
 -- ---- the lengths of the values, of the columns
-map-rows : {A B : Type 0} (f : A → B) (keys : List Bytes) (held : List A) → mapRows f (rowsOf keys held) ≡ rowsOf keys (map f held)
-unfolding mapRows rowsOf zipWith
-map-rows f [] held = refl
-map-rows f (k ∷ keys) [] = refl
-map-rows {A} {B} f (k ∷ keys) (a ∷ held) = ap (λ (l : Rows B). (k, f a) ∷ l) (map-rows f keys held)
-
 cell-length : (i : ℕ) (values : List ℕ) → length values ≡ 16384 → i < 64 → length (cellAt 256 i values) ≡ 256
 unfolding cellAt
 cell-length i values e h = length-take-le 256 (drop (256 * i) values) (simp length-drop (omega arith))
@@ -280,9 +268,9 @@ module _ (n : ℕ) (values lens numbers expiries : List ℕ) (v : length values 
       let b : n ≤ length numbers = omega arith in
       let d : n ≤ length expiries = omega arith in
       let c : length (map valueLength (entriesOf n values lens numbers expiries)) ≡ n =
-      length-map (entriesOf n values lens numbers expiries) valueLength ∙ length-entries n values lens numbers expiries a b d in
+      length-map (entriesOf n values lens numbers expiries) valueLength ∙ length-entries n numbers expiries b d values lens a in
       let g : (i : ℕ) → i < n → length (valueAt values lens i) ≡ getD lens i 0 =
-      λ i h. length-take-le (getD lens i 0) (cellAt 256 i values) (omega (arith, fit-at 256 n lens a fit i h, cell-length i values v (omega arith))) in
+      λ i h. length-take-le (getD lens i 0) (cellAt 256 i values) (omega (arith, fit-at 256 n lens fit i h, cell-length i values v (omega arith))) in
       ext-getD 0 (map valueLength (entriesOf n values lens numbers expiries)) (take n lens) (c ∙ sym (length-take-le n lens a))
       (λ i h.
       let k : i < n = omega arith in
@@ -347,81 +335,9 @@ module _ (identity subtree : Bytes) (i : length identity ≡ 255) where
       let e : length (thanks identity number subtree) ≡ 377 = thanks-length identity number subtree ∙ rw (i, s) in
       omega (arith, length-append (syncs identity subtree rows) (thanks identity number subtree), syncs-reached rows f)
 
--- ---- a key under a subtree is longer than it: the subtree ends in a slash, and a key does not
-abbrev names : List Bytes → Bool
-names [] = true
-names (first ∷ rest) = every isName rest
-
-slash-last : (s : Bytes) → names (pieces 47 (s ++ (47 ∷ []))) ≡ false
-unfolding pieces every
-slash-last [] = refl
-slash-last (b ∷ s) = go (eqb b 47) (pieces 47 (s ++ (47 ∷ []))) (slash-last s)
-  where
-    go : (t : Bool) (ps : List Bytes) → names ps ≡ false → names (cond t ([] ∷ ps) (onFirst b ps)) ≡ false
-    go true [] e = e
-    go true (p ∷ ps) e = rw e (and-false (isName p))
-    go false [] e = cc
-    go false (p ∷ ps) e = e
-
-slashed-names : (ps : List Bytes) → slashed ps ≡ true → names ps ≡ true
-slashed-names [] e = refl
-slashed-names (first ∷ []) e = cc
-slashed-names (first ∷ name ∷ rest) e = and-right (isNil first) (every isName (name ∷ rest)) e
-
-key-last : (s : Bytes) → isKey s ≡ true → 0 < length s → getD s (length s - 1) 0 ≡ 47 → ⊥
-unfolding isKey
-key-last s k h e =
-    let a : length s - 1 < length s = omega arith in
-    let g : suc (length s - 1) ≡ length s = omega arith in
-    let p : s ≡ take (length s - 1) s ++ (47 ∷ []) = sym (take-length s) ∙ ap (λ (n : ℕ). take n s) (sym g) ∙ take-suc s (length s - 1) 0 a ∙ ap (λ (b : ℕ). take (length s - 1) s ++ (b ∷ [])) e in
-    let q : names (pieces 47 s) ≡ true = slashed-names (pieces 47 s) (and-right (leb (length s) 96) (slashed (pieces 47 s)) k) in
-    let w : names (pieces 47 s) ≡ false = ap (λ (t : Bytes). names (pieces 47 t)) p ∙ slash-last (take (length s - 1) s) in
-    let z : _≡_ {A = ℕ} 0 1 = cc in
-    omega arith
-
-no-key : isKey [] ≡ true → ⊥
-unfolding isKey pieces
-no-key e = let z : _≡_ {A = ℕ} 0 1 = cc in omega arith
-
-not-both : (s : Bytes) → isKey s ≡ true → isSubtree s ≡ true → ⊥
-unfolding isSubtree
-not-both [] k t = no-key k
-not-both (b ∷ s) k t =
-    let n = length (b ∷ s) - 1 in
-    let e = and-left (eqb (getD (b ∷ s) n 0) 47) (isKey (take n (b ∷ s))) (and-right (leb (length (b ∷ s)) 96) (eqb (getD (b ∷ s) n 0) 47 && isKey (take n (b ∷ s))) t) in
-    key-last (b ∷ s) k (omega arith) (eqb-true (getD (b ∷ s) n 0) 47 e)
-
-pub key-longer : (subtree key : Bytes) → isSubtree subtree ≡ true → isKey key ≡ true → under subtree key ≡ true → length subtree < length key
-key-longer subtree key s k u = go (ltb (length subtree) (length key)) refl
-  where
-    go : (t : Bool) → ltb (length subtree) (length key) ≡ t → length subtree < length key
-    go true e = ltb-true (length subtree) (length key) e
-    go false e = absurd (shorter (ltb (length key) (length subtree)) refl)
-      where
-        shorter : (t : Bool) → ltb (length key) (length subtree) ≡ t → ⊥
-        shorter true f =
-            let p = prefix-longer subtree key (ltb-true (length key) (length subtree) f) in
-            let z : _≡_ {A = ℕ} 0 1 = cc in
-            omega arith
-        shorter false f =
-            let l : length subtree ≡ length key = omega (arith, ltb-false (length subtree) (length key) e, ltb-false (length key) (length subtree) f) in
-            let p : subtree ≡ key = same-eq subtree key (same-prefix subtree key l ∙ u) in
-            not-both key k (rw p at s)
-
 -- ---- the most that a state's rows take: a row with a key, and a value that is no longer than its cell
 abbrev pub Kept : Bytes × Entry → Type 0
 Kept r = (isKey (r .0) ≡ true) × Short (r .1 .value)
-
-key-short : (s : Bytes) → isKey s ≡ true → length s ≤ 96
-unfolding isKey
-key-short s k = leb-true (length s) 96 (and-left (leb (length s) 96) (slashed (pieces 47 s)) k)
-
-subtree-short : (s : Bytes) → isSubtree s ≡ true → length s ≤ 96
-unfolding isSubtree
-subtree-short [] e = omega arith
-subtree-short (b ∷ s) e =
-    let n = length (b ∷ s) - 1 in
-    leb-true (length (b ∷ s)) 96 (and-left (leb (length (b ∷ s)) 96) (eqb (getD (b ∷ s) n 0) 47 && isKey (take n (b ∷ s))) e)
 
 kept-fit : (rows : Rows Entry) → All Kept rows → All Fits rows
 kept-fit [] k = tt
@@ -449,16 +365,6 @@ snapshot-most number identity subtree rows i s k h = go (ltb 0 (length (keep (un
     go true e = omega (arith, bound, kept-under subtree s rows k (ltb-true 0 (length (keep (under subtree) rows)) e))
     go false e = omega (arith, bound, ltb-false 0 (length (keep (under subtree) rows)) e, subtree-short subtree s)
 
--- no more rows are kept than there are
-pub keep-fewer : {A : Type 0} (test : Bytes → Bool) (rows : Rows A) → length (keep test rows) ≤ length rows
-unfolding keep
-keep-fewer test [] = omega arith
-keep-fewer {A} test (r ∷ l) = go (test (r .0)) (keep-fewer test l)
-  where
-    go : (t : Bool) → length (keep test l) ≤ length l → length (cond t (r ∷ keep test l) (keep test l)) ≤ length (r ∷ l)
-    go true h = omega arith
-    go false h = omega arith
-
 -- ---- no value that the columns hold is longer than its cell
 short-cells : (n : ℕ) (values : List ℕ) → All Short (cells 256 n values)
 unfolding cells
@@ -484,9 +390,18 @@ kept-rows (key ∷ keys) [] k h = tt
 kept-rows (key ∷ keys) (e ∷ held) k h =
     ((and-left (isKey key) (every isKey keys) k, h .0), kept-rows keys held (and-right (isKey key) (every isKey keys) k) (h .1))
 
-pub columns-kept : (n : ℕ) (values lens numbers expiries : List ℕ) (keys : List Bytes) → every isKey keys ≡ true
+columns-kept : (n : ℕ) (values lens numbers expiries : List ℕ) (keys : List Bytes) → every isKey keys ≡ true
     → All Kept (rowsOf keys (entriesOf n values lens numbers expiries))
 unfolding entriesOf texts
 columns-kept n values lens numbers expiries keys k =
     kept-rows keys (entriesOf n values lens numbers expiries) k
     (short-entries (texts 256 n lens values) (zipWith stamp (take n numbers) (take n expiries)) (short-texts (take n lens) (cells 256 n values) (short-cells n values)))
+
+-- a snapshot of a well-formed state is at most so long
+pub state-most : (s : Server) → SizedServer s → WellFormed s → (number : ℕ) (identity subtree : Bytes) → length identity ≤ 255 → isSubtree subtree ≡ true
+    → length (snapshotBytes number identity subtree (rowsOf (keysOf s) (heldOf s))) ≤ 40953
+state-most s z w number identity subtree i t =
+    let g = good-server s w in
+    snapshot-most number identity subtree (rowsOf (keysOf s) (heldOf s)) i t
+    (columns-kept (s .table .count) (s .table .values) (s .table .«value_lengths») (s .numbers) (s .expiries) (keysOf s) (g .are-keys))
+    (omega (arith, g .count, length-keep (under subtree) (rowsOf (keysOf s) (heldOf s)), rows-long s z (g .count)))

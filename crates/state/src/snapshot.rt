@@ -37,9 +37,9 @@ pub fn snapshot_length<'a>(
     let mut i = count;
     while 0 < i {
         i -= 1;
-        let key = text::key_at(all, key_lengths, i);
-        if keys::is_under(subtree, key) {
-            let row = message::message_length(key.len(), 0, 0, text::size(value_column[i]));
+        let head = text::key_at(all, key_lengths, i);
+        if keys::is_under(subtree, head) {
+            let row = message::message_length(head.len(), 0, 0, text::size(value_column[i]));
             total = output::add_lengths(output::add_lengths(front, row), total);
         }
     }

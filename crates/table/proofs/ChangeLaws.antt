@@ -6,8 +6,8 @@ use mathlib.Core.Path.{_≡_, refl, sym, ap, _∙_}
 use native.Mathlib.Nat.{le-of-suc-le-suc, not-suc-le-zero, mul-le-mul-left, mul-suc}
 use native.Mathlib.Numerals.{add-one}
 use native.Mathlib.Omega.{arith}
-use lib.ListN.{length, getD, take, drop, set, length-take, length-drop, length-append, length-set, drop-of-length-le}
-use lib.Seq.{length-take-le, take-all, take-set-lt, take-append-seam}
+use lib.ListN.{length, getD, take, drop, set, length-take, drop-of-length-le}
+use lib.Seq.{take-all, take-set-lt, take-append-seam}
 use Rattle.base.proofs.ByteLaws.{and-left, and-right}
 use Rattle.base.proofs.OutputLaws.{output}
 use Rattle.base.specs.Bytes.{Bytes, every}
@@ -95,13 +95,6 @@ fits-most (Replace i) n h = (h .1, h .1)
 fits-most (Insert i) n h = (omega arith, omega arith)
 
 module _ {A : Type 0} where
-  pub length-changed : (change : Change) (n : ℕ) (a : A) (l : List A) → length l ≡ n → Fits change n → length (changed change a l) ≡ countAfter change n
-  unfolding insertAt removeAt
-  length-changed Leave n a l p h = p
-  length-changed (Remove i) n a l p h = simp (length-append, length-take, length-drop) (omega arith)
-  length-changed (Replace i) n a l p h = length-set l i a ∙ p
-  length-changed (Insert i) n a l p h = simp (length-append, length-take, length-drop) (omega arith)
-
   pub insert-removed : (i : ℕ) (l : List A) (d : A) → i < length l → insertAt i (getD l i d) (removeAt i l) ≡ l
   unfolding insertAt removeAt
   insert-removed i [] d h = absurd (not-suc-le-zero h)
@@ -163,13 +156,6 @@ module _ (s n m : ℕ) (change : Change) (cell : Bytes) (lens lens′ : List ℕ
       ap (λ (l : List ℕ). zipWith take l (cells s n′ all′)) e
       ∙ ap (zipWith take (changed change m (take n lens))) g
       ∙ zip-changed take change n m cell (take n lens) (cells s n all) p (length-cells s n all) h
-
-  -- the same from what the changes of both columns give
-  pub texts-after : (n′ : ℕ) → n′ ≡ countAfter change n → length (take n lens) ≡ n → Fits change n
-      → take (countAfter change n) lens′ ≡ changed change m (take n lens)
-      → cells s (countAfter change n) all′ ≡ changed change cell (cells s n all)
-      → texts s n′ lens′ all′ ≡ changed change (take m cell) (texts s n lens all)
-  texts-after n′ w p h e g = ap (λ (j : ℕ). texts s j lens′ all′) w ∙ texts-changed (countAfter change n) p h e g
 
 -- ---- what each kind of change makes of a column of cells, of which the changed one is given whole
 module _ (s n i : ℕ) (cell old new : Bytes) (whole : length cell ≡ s) where

@@ -18,7 +18,7 @@ use Rattle.names.specs.Order.{orderOf}
 use Rattle.names.specs.declared.order.Order.the-variants.{Less, Equal, Greater}
 use Rattle.names.specs.declared.order.Order.{Order}
 use Rattle.rows.proofs.RowLaws.{same-by-order, sorted-set, sorted-remove, sorted-rising, rising-sorted, above-hasKey, above-trans}
-use Rattle.rows.specs.Rows.{Rows, setRow, removeRow, hasKey, keysIn, Sorted, Above, rising, isLess}
+use Rattle.rows.specs.Rows.{Rows, mapRows, setRow, removeRow, hasKey, keysIn, Sorted, Above, rising, isLess}
 use Rattle.table.specs.Changes.{changed, Fits}
 use Rattle.table.specs.Columns.{rowsOf}
 use Rattle.table.specs.Find.{placeOf, byOrder, changeTo}
@@ -158,6 +158,12 @@ module _ {A : Type 0} where
   below-above x [] held p = tt
   below-above x (y ∷ keys) [] p = tt
   below-above x (y ∷ keys) (b ∷ held) p = (p .0, below-above x keys held (p .1))
+
+pub map-rows : {A B : Type 0} (f : A → B) (keys : List Bytes) (held : List A) → mapRows f (rowsOf keys held) ≡ rowsOf keys (map f held)
+unfolding mapRows rowsOf zipWith
+map-rows f [] held = refl
+map-rows f (k ∷ keys) [] = refl
+map-rows {A} {B} f (k ∷ keys) (a ∷ held) = ap (λ (l : Rows B). (k, f a) ∷ l) (map-rows f keys held)
 
 -- what a key's row, at place i, says of the rows
 pub record There {A : Type 0} (k : Bytes) (keys : List Bytes) (held : List A) (i : ℕ) : Type 0 where

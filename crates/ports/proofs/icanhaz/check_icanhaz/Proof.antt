@@ -41,7 +41,7 @@ check-icanhaz-frames-requires : tie.Need-check-icanhaz-frames-requires
 check-icanhaz-frames-requires c κs = search needs
 
 returns : tie.Need-returns
-returns c = past-refused (framed 3 (now (c .before .before .before .before .before .args .msg))) (frames (c .before .before .before .before .before)) _ (sym (c .before .r .given .1) ∙ c .before .before .before .check-framing .ensures)
+returns c = past-refused verdict (framed 3 (now (c .before .before .before .before .before .args .msg))) (frames (c .before .before .before .before .before)) _ (sym (c .before .r .given .1) ∙ c .before .before .before .check-framing .ensures)
 
 returns-2 : tie.Need-returns-2
 returns-2 c = c .check-icanhaz-frames .ensures ∙ rw (part (c .before) 0 (omega arith), part (c .before) 1 (omega arith), part (c .before) 2 (omega arith), past-accepted (framed 3 (now (c .before .before .before .before .before .args .msg))) (frames (c .before .before .before .before .before)) (accepted-so (c .before)))

@@ -9,14 +9,14 @@ use denote.Ref.{now}
 use Rattle.answers.specs.Refusals.{verdict}
 use Rattle.answers.specs.declared.refusal.Refusal.{Refusal}
 use Rattle.answers.specs.declared.refusal.Verdict.{Verdict}
-use Rattle.base.proofs.CheckLaws.{Left, pass, stop, done}
+use Rattle.base.proofs.CheckLaws.{Left, pass, stop, done, asked}
 use Rattle.base.specs.Bytes.{same}
 use Rattle.base.specs.Checks.{Check, firstOf}
 use Rattle.base.specs.Octets.{number}
 use Rattle.frames.specs.Messages.{bodyAt}
 use Rattle.names.specs.Numbers.{maxSequence, numberedOf}
 use Rattle.names.specs.declared.numbers.Numbered.the-variants.{By}
-use Rattle.ports.proofs.PortLaws.{asked, told, empty-pass, empty-stop, unnumbered-stop, numbered-pass, number-is}
+use Rattle.ports.proofs.PortLaws.{told, empty-pass, empty-stop, unnumbered-stop, numbered-pass, number-is}
 use Rattle.ports.specs.Bodies.{bodiesOf}
 use Rattle.ports.specs.Ports.{kthxbaiChecks}
 use Rattle.ports.proofs.snapshot.check_kthxbai_frames.Statement.{statement}

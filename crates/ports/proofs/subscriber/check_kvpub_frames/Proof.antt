@@ -9,14 +9,14 @@ use denote.Ref.{now}
 use Rattle.answers.specs.Refusals.{verdict}
 use Rattle.answers.specs.declared.refusal.Refusal.{Refusal}
 use Rattle.answers.specs.declared.refusal.Verdict.{Verdict}
-use Rattle.base.proofs.CheckLaws.{Left, pass, stop}
+use Rattle.base.proofs.CheckLaws.{Left, pass, stop, asked}
 use Rattle.base.specs.Checks.{Check, firstOf}
 use Rattle.base.specs.Octets.{number}
 use Rattle.frames.specs.Messages.{bodyAt}
 use Rattle.names.specs.Keys.{isKey}
 use Rattle.names.specs.Numbers.{maxSequence, numberedOf}
 use Rattle.names.specs.declared.numbers.Numbered.the-variants.{By}
-use Rattle.ports.proofs.PortLaws.{asked, told, unnumbered-stop, numbered-pass, number-is}
+use Rattle.ports.proofs.PortLaws.{told, unnumbered-stop, numbered-pass, number-is}
 use Rattle.ports.specs.Bodies.{bodiesOf}
 use Rattle.ports.specs.Ports.{kvpubChecks}
 use Rattle.ports.proofs.subscriber.check_kvpub_frames.Statement.{statement}

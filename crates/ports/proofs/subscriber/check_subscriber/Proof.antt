@@ -3,6 +3,7 @@ use mathlib.Core.Path.{sym, _∙_}
 use borrow.Author.Needs.{needs}
 use denote.Ref.{now}
 use Rattle.answers.proofs.VerdictLaws.{past-refused}
+use Rattle.answers.specs.Refusals.{verdict}
 use Rattle.messages.specs.Fields.{fieldsOf}
 use Rattle.ports.proofs.PortLaws.{by-fields}
 use Rattle.ports.specs.Ports.{framed, publishedChecks}
@@ -22,7 +23,7 @@ check-published-frames-requires : tie.Need-check-published-frames-requires
 check-published-frames-requires c κs = search needs
 
 returns : tie.Need-returns
-returns c = past-refused (framed 5 (now (c .before .before .before .before .before .args .msg))) (publishedChecks (fieldsOf (now (c .before .before .before .before .before .args .msg)))) _ (sym (c .before .r .given .1) ∙ c .before .before .before .check-framing .ensures)
+returns c = past-refused verdict (framed 5 (now (c .before .before .before .before .before .args .msg))) (publishedChecks (fieldsOf (now (c .before .before .before .before .before .args .msg)))) _ (sym (c .before .r .given .1) ∙ c .before .before .before .check-framing .ensures)
 
 returns-2 : tie.Need-returns-2
 returns-2 c = c .check-published-frames .ensures ∙ by-fields _ (sym (c .before .enum-told .given .1) ∙ c .before .before .before .check-framing .ensures) publishedChecks

@@ -7,9 +7,9 @@ use denote.Ref.{now}
 use Rattle.answers.specs.Refusals.{verdict}
 use Rattle.answers.specs.declared.refusal.Refusal.{Refusal}
 use Rattle.answers.specs.declared.refusal.Verdict.{Verdict}
-use Rattle.base.proofs.CheckLaws.{Left, pass, stop, done}
+use Rattle.base.proofs.CheckLaws.{Left, pass, stop, done, asked}
 use Rattle.base.specs.Checks.{Check, firstOf}
-use Rattle.ports.proofs.PortLaws.{asked, good-pass, good-stop}
+use Rattle.ports.proofs.PortLaws.{good-pass, good-stop}
 use Rattle.ports.specs.Ports.{payloadChecks}
 use Rattle.ports.proofs.update.check_payload.Statement.{statement}
 use Rattle.ports.proofs.update.check_payload.Tie as tie

@@ -5,9 +5,8 @@ use borrow.Author.Needs.{needs}
 use denote.Ref.{now}
 use Rattle.answers.specs.Refusals.{verdict}
 use Rattle.answers.specs.declared.refusal.Refusal.{Refusal}
-use Rattle.base.proofs.CheckLaws.{Left, pass, stop}
+use Rattle.base.proofs.CheckLaws.{Left, pass, stop, asked}
 use Rattle.base.specs.Checks.{Check, firstOf}
-use Rattle.ports.proofs.PortLaws.{asked}
 use Rattle.ports.specs.Ports.{updateChecks}
 use Rattle.ports.proofs.update.check_update.Statement.{statement}
 use Rattle.ports.proofs.update.check_update.Tie as tie

@@ -66,7 +66,7 @@ check-room-requires c κs =
 returns : tie.Need-returns
 returns c =
     let s = c .before .before .before .before .before in
-    past-refused (stateChecks s) (icanhazPort (now (s .args .msg)) ++ roomChecks s) _ (ill (c .before))
+    past-refused verdict (stateChecks s) (icanhazPort (now (s .args .msg)) ++ roomChecks s) _ (ill (c .before))
 
 returns-2 : tie.Need-returns-2
 returns-2 c =

@@ -1,12 +1,8 @@
 -- `server::kvset::expiry_at` meets its contract: a lifetime is added to the tick, and without one the row does not expire. Assumes nothing.
-use Prim.Native.Nat.{_≤_}
 use native.Mathlib.Omega.{arith}
-use mathlib.Core.Bool.{true}
 use mathlib.Core.Path.{refl, sym, ap, _∙_}
 use denote.Ref.{now}
-use Rattle.properties.specs.Properties.{propertiesOf}
 use Rattle.properties.specs.declared.read.Properties.the-variants.{Good}
-use Rattle.properties.specs.declared.read.Properties.{Properties}
 use Rattle.server.proofs.ExpiryLaws.{short-life, in-range, expires-then}
 use Rattle.server.specs.Next.{expiryAt}
 use borrow.Author.Needs.{needs}

@@ -17,10 +17,11 @@ use Rattle.names.specs.declared.numbers.Sequence.{Sequence}
 use Rattle.properties.specs.Properties.{propertiesOf}
 use Rattle.server.proofs.AnswerLaws.{refused-call}
 use Rattle.server.proofs.KvsetLaws.{goes-on, goes-with, stops-with, written-as}
-use Rattle.server.proofs.UpdateLaws.{SizedServer, kvsetTable, kvset-refusal, change-is-fit, key-short, value-short, in-time, number-left, kvset-done, frames-are}
+use Rattle.server.proofs.UpdateLaws.{kvsetTable, kvset-refusal, change-is-fit, key-short, value-short, in-time, number-left, kvset-done, frames-are}
 use Rattle.server.specs.Calls.{kvset}
 use Rattle.server.specs.Next.{expiryAt}
 use Rattle.server.specs.declared.kvset.Plan.the-variants.{Refuse}
+use Rattle.state.proofs.StateLaws.{SizedServer}
 use Rattle.state.specs.IllFormed.{illFormsOf}
 use Rattle.state.specs.Views.{keysOf}
 use Rattle.table.specs.Changes.{changed, Fits}

@@ -1,6 +1,5 @@
 -- `server::kvset::overfills` meets its contract: only an insertion adds a row. Assumes nothing.
-use mathlib.Core.Path.{sym, ap, _∙_}
-use Prim.Native.Nat.{ℕ}
+use mathlib.Core.Path.{sym, ap}
 use Rattle.server.specs.Plans.{isOver}
 use Rattle.table.specs.declared.change.Change.{Change}
 use borrow.Author.Needs.{needs}

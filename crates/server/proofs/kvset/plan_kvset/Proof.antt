@@ -1,8 +1,9 @@
 -- `server::kvset::plan_kvset` meets its contract: the state, the frames, the tick, and then the update. Assumes nothing.
 use mathlib.Core.List.{List, _++_}
+use mathlib.Core.Option.{Option}
 use mathlib.Core.Path.{_≡_, sym, ap, _∙_}
 use denote.Ref.{now}
-use Rattle.answers.proofs.VerdictLaws.{accepted}
+use Rattle.answers.proofs.VerdictLaws.{accepted, past-accepted, past-refused}
 use Rattle.answers.specs.Refusals.{verdict}
 use Rattle.answers.specs.declared.refusal.Refusal.{Refusal}
 use Rattle.answers.specs.declared.refusal.Verdict.the-variants.{Accept}
@@ -10,11 +11,11 @@ use Rattle.base.specs.Bytes.{Bytes, isNil}
 use Rattle.base.specs.Checks.{Check, firstOf}
 use Rattle.messages.specs.Fields.{Fields, fieldsOf}
 use Rattle.ports.specs.Ports.{kvsetPort}
-use Rattle.server.proofs.KvsetLaws.{stopped, passed-on, fields-read}
+use Rattle.server.proofs.KvsetLaws.{fields-read}
 use Rattle.server.specs.Plans.{planOf, isFound}
 use Rattle.server.specs.Refusals.{tickChecks, updateChecks}
 use Rattle.server.specs.declared.kvset.Plan.{Plan}
-use Rattle.state.proofs.FormLaws.{Good, good-columns}
+use Rattle.state.proofs.FormLaws.{good-columns}
 use Rattle.state.specs.IllFormed.{illForms}
 use Rattle.table.specs.Columns.{texts}
 use Rattle.table.specs.Find.{placeOf, changeTo}
@@ -45,6 +46,10 @@ change s f = changeTo (isNil (f .value)) (placeOf 0 (f .head) (keys s))
 
 abbrev fields : tie.Start → Fields
 fields s = fieldsOf (now (s .args .msg))
+
+-- what a first refusal, or none, comes to
+abbrev plan : tie.Start → Option Refusal → Plan
+plan s x = planOf x (change s (fields s))
 
 -- ---- what passed
 good-state : (c : tie.After-enum-told) → Accept ≡ verdict (firstOf (state (c .before .before .before .before .before .before)))
@@ -95,15 +100,15 @@ returns : tie.Need-returns
 returns c =
     let r = c .before in
     let s = r .before .before .before .before .before .before in
-    stopped (state s) (frames s ++ (time s ++ update s (fields s))) (change s (fields s)) _ (sym (r .r .given .1) ∙ r .before .before .check-state .ensures)
+    past-refused (plan s) (state s) (frames s ++ (time s ++ update s (fields s))) _ (sym (r .r .given .1) ∙ r .before .before .check-state .ensures)
 
 returns-2 : tie.Need-returns-2
 returns-2 c =
     let r = c .before in
     let t = r .before .before .before in
     let s = t .before .before .before .before .before .before in
-    stopped (frames s) (time s ++ update s (fields s)) (change s (fields s)) _ (sym (r .r2 .given .1) ∙ r .before .before .check-kvset .ensures)
-    ∙ sym (passed-on (state s) (frames s ++ (time s ++ update s (fields s))) (change s (fields s)) (good-state t))
+    past-refused (plan s) (frames s) (time s ++ update s (fields s)) _ (sym (r .r2 .given .1) ∙ r .before .before .check-kvset .ensures)
+    ∙ sym (ap (plan s) (past-accepted (state s) (frames s ++ (time s ++ update s (fields s))) (good-state t)))
 
 returns-3 : tie.Need-returns-3
 returns-3 c =
@@ -111,9 +116,9 @@ returns-3 c =
     let u = r .before .before .before in
     let t = u .before .before .before in
     let s = t .before .before .before .before .before .before in
-    stopped (time s) (update s (fields s)) (change s (fields s)) _ (sym (r .r3 .given .1) ∙ r .before .before .check-tick .ensures)
-    ∙ sym (passed-on (frames s) (time s ++ update s (fields s)) (change s (fields s)) (good-frames u))
-    ∙ sym (passed-on (state s) (frames s ++ (time s ++ update s (fields s))) (change s (fields s)) (good-state t))
+    past-refused (plan s) (time s) (update s (fields s)) _ (sym (r .r3 .given .1) ∙ r .before .before .check-tick .ensures)
+    ∙ sym (ap (plan s) (past-accepted (frames s) (time s ++ update s (fields s)) (good-frames u)))
+    ∙ sym (ap (plan s) (past-accepted (state s) (frames s ++ (time s ++ update s (fields s))) (good-state t)))
 
 returns-4 : tie.Need-returns-4
 returns-4 c =
@@ -123,9 +128,9 @@ returns-4 c =
     let s = t .before .before .before .before .before .before in
     c .plan-update .ensures
     ∙ ap (λ (f : Fields). planOf (firstOf (update s f)) (change s f)) (fields-read (now (s .args .msg)) (good-frames u))
-    ∙ sym (passed-on (time s) (update s (fields s)) (change s (fields s)) (good-time w))
-    ∙ sym (passed-on (frames s) (time s ++ update s (fields s)) (change s (fields s)) (good-frames u))
-    ∙ sym (passed-on (state s) (frames s ++ (time s ++ update s (fields s))) (change s (fields s)) (good-state t))
+    ∙ sym (ap (plan s) (past-accepted (time s) (update s (fields s)) (good-time w)))
+    ∙ sym (ap (plan s) (past-accepted (frames s) (time s ++ update s (fields s)) (good-frames u)))
+    ∙ sym (ap (plan s) (past-accepted (state s) (frames s ++ (time s ++ update s (fields s))) (good-state t)))
 
 pub plan-kvset-spec : {M : Type 1} → statement M
 plan-kvset-spec =

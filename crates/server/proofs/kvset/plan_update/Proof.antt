@@ -1,5 +1,4 @@
 -- `server::kvset::plan_update` meets its contract: the checks behind the tick, in their order. Assumes nothing.
-use native.Mathlib.Omega.{arith}
 use mathlib.Core.List.{List}
 use denote.Ref.{now}
 use Rattle.base.specs.Bytes.{Bytes}

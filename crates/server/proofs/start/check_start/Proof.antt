@@ -1,16 +1,12 @@
 -- `server::start::check_start` meets its contract: the number, and then the tick. Assumes nothing.
-use mathlib.Core.List.{List}
 use mathlib.Core.Path.{refl}
 use Rattle.answers.specs.Refusals.{verdict}
-use Rattle.base.proofs.CheckLaws.{Left, pass, stop, done}
+use Rattle.base.proofs.CheckLaws.{Left, pass, stop, done, asked}
 use Rattle.base.specs.Checks.{firstOf}
-use Rattle.ports.proofs.PortLaws.{asked}
 use Rattle.server.specs.Start.{startChecks}
 use borrow.Author.Needs.{needs}
 use Rattle.server.proofs.start.check_start.Statement.{statement}
 use Rattle.server.proofs.start.check_start.Tie as tie
-use Rattle.names.proofs.numbers.is_kept.Reads as is-kept-reads
-use Rattle.names.proofs.numbers.is_time.Reads as is-time-reads
 
 whole : (s : tie.Start) → Left verdict (verdict (firstOf (startChecks (s .args .number .0) (s .args .tick .0)))) (startChecks (s .args .number .0) (s .args .tick .0))
 whole s = record { is = refl }

@@ -4,9 +4,6 @@ use Rattle.server.proofs.StartLaws.{begun, not-begun}
 use borrow.Author.Needs.{needs}
 use Rattle.server.proofs.start.start.Statement.{statement}
 use Rattle.server.proofs.start.start.Tie as tie
-use Rattle.answers.proofs.answer.without_output.Reads as without-output-reads
-use Rattle.server.proofs.start.check_start.Reads as check-start-reads
-use Rattle.server.proofs.start.empty.Reads as empty-reads
 
 check-start-requires : tie.Need-check-start-requires
 check-start-requires c κs = search needs

@@ -2,12 +2,12 @@
 -- the time since the last publication and the room for a sign of life. Assumes nothing.
 use native.Mathlib.Omega.{arith}
 use mathlib.Core.List.{List}
-use mathlib.Core.Path.{_∙_, sym}
 use denote.Ref.{now}
 use borrow.Author.Needs.{needs}
 use Rattle.base.specs.Bytes.{Bytes}
+use Rattle.table.proofs.TextLaws.{text-is, fit-at}
 use Rattle.table.specs.Columns.{texts}
-use Rattle.server.proofs.TickLaws.{due-below, length-fits, text-there, exhausted, too-short, goes, is-quiet, no-beat, beats}
+use Rattle.server.proofs.TickLaws.{due-below, exhausted, too-short, goes, is-quiet, no-beat, beats}
 use Rattle.server.proofs.tick.plan_deed.Statement.{statement}
 use Rattle.server.proofs.tick.plan_deed.Tie as tie
 
@@ -32,7 +32,7 @@ key-at-requires c κs =
     let d = c .before .before .before in
     let s = d .before .before .before .before .before in
     let h = due-below (keysIn s) (s .args .tick .0) 0 0 0 (s .args .count) (now (s .args .expiries)) (d .before .before .due-row .ensures) (d .i .given .1) in
-    (omega (arith, h, s .pre .0), length-fits 96 (s .args .count) (now (s .args .key-lengths)) _ (s .pre .1 .0) h)
+    (omega (arith, h, s .pre .0), fit-at 96 (s .args .count) (now (s .args .key-lengths)) (s .pre .1 .0) _ h)
 
 message-length-requires : tie.Need-message-length-requires
 message-length-requires c κs = search needs
@@ -45,7 +45,7 @@ returns-2 c =
     let h = due-below (keysIn s) (s .args .tick .0) 0 0 0 (s .args .count) (now (s .args .expiries)) (d .before .before .due-row .ensures) (d .i .given .1) in
     too-short (keysIn s) (s .args .tick .0) (s .args .header .«last_published» .0) (s .args .header .number .0) (s .args .room) (s .args .count) (now (s .args .expiries))
     (d .before .before .due-row .ensures) (d .i .given .1) (k .before .if1 .left)
-    (text-there 96 (s .args .count) (now (s .args .key-lengths)) (now (s .args .keys)) _ h ∙ sym (k .key-at .ensures)) (c .before .message-length .ensures) (c .if2 .taken)
+    (text-is 96 (s .args .count) (now (s .args .key-lengths)) (now (s .args .keys)) _ h (k .key-at .ensures)) (c .before .message-length .ensures) (c .if2 .taken)
 
 enum-told : tie.Need-enum-told
 enum-told c = search needs
@@ -75,7 +75,7 @@ returns-5 c =
     let h = due-below (keysIn s) (s .args .tick .0) 0 0 0 (s .args .count) (now (s .args .expiries)) (d .before .before .due-row .ensures) (d .i .given .1) in
     goes (keysIn s) (s .args .tick .0) (s .args .header .«last_published» .0) (s .args .header .number .0) (s .args .room) (s .args .count) (now (s .args .expiries))
     (d .before .before .due-row .ensures) (d .i .given .1) (k .before .if1 .left)
-    (text-there 96 (s .args .count) (now (s .args .key-lengths)) (now (s .args .keys)) _ h ∙ sym (k .key-at .ensures)) (c .before .message-length .ensures) (s .pre .1 .1 .1) (c .if2 .left)
+    (text-is 96 (s .args .count) (now (s .args .key-lengths)) (now (s .args .keys)) _ h (k .key-at .ensures)) (c .before .message-length .ensures) (s .pre .1 .1 .1) (c .if2 .left)
 
 returns-6 : tie.Need-returns-6
 returns-6 c =

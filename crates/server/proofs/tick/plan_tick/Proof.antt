@@ -1,17 +1,23 @@
 -- `server::tick::plan_tick` meets its contract: the state, the tick, and then what there is to do. Assumes nothing.
 use mathlib.Core.List.{List, _++_}
+use mathlib.Core.Option.{Option}
+use mathlib.Core.Path.{_≡_, sym, ap, _∙_}
 use lib.ListN.{take}
 use denote.Ref.{now}
 use borrow.Author.Needs.{needs}
+use Rattle.answers.proofs.VerdictLaws.{past-accepted, past-refused}
+use Rattle.answers.specs.Refusals.{verdict}
 use Rattle.answers.specs.declared.refusal.Refusal.{Refusal}
-use Rattle.base.specs.Checks.{Check}
+use Rattle.answers.specs.declared.refusal.Verdict.the-variants.{Accept}
+use Rattle.base.specs.Checks.{Check, firstOf}
+use Rattle.server.specs.declared.tick.Step.{Step}
 use Rattle.state.specs.Due.{dueFrom}
 use Rattle.state.specs.IllFormed.{illForms}
 use Rattle.state.specs.declared.due.Due.{Due}
 use Rattle.table.specs.Columns.{texts}
-use Rattle.server.specs.Plans.{deedAt}
+use Rattle.server.specs.Plans.{deedAt, stepOf}
 use Rattle.server.specs.Refusals.{tickChecks, deedChecks}
-use Rattle.server.proofs.TickLaws.{stopped-there, went-on, deed-known}
+use Rattle.server.proofs.TickLaws.{deed-known}
 use Rattle.server.proofs.tick.plan_tick.Statement.{statement}
 use Rattle.server.proofs.tick.plan_tick.Tie as tie
 
@@ -26,6 +32,17 @@ due s = dueFrom 0 (s .args .tick .0) (take (s .args .count) (now (s .args .expir
 
 abbrev deeds : tie.Start → List (Check Refusal)
 deeds s = deedChecks (s .args .header .number .0) (deedAt (s .args .tick .0) (s .args .header .«last_published» .0) (texts 96 (s .args .count) (now (s .args .key-lengths)) (now (s .args .keys))) (due s)) (s .args .room)
+
+-- what a first refusal, or none, comes to
+abbrev step : tie.Start → Option Refusal → Step
+step s x = stepOf x (s .args .tick .0) (s .args .header .«last_published» .0) (due s)
+
+-- ---- what passed
+good-state : (c : tie.After-enum-told) → Accept ≡ verdict (firstOf (forms (c .before .before .before .before)))
+good-state c = sym (c .enum-told .given .1) ∙ c .before .before .check-state .ensures
+
+good-time : (c : tie.After-enum-told2) → Accept ≡ verdict (firstOf (times (c .before .before .before .before .before .before .before)))
+good-time c = sym (c .enum-told2 .given .1) ∙ c .before .before .check-tick .ensures
 
 check-state-requires : tie.Need-check-state-requires
 check-state-requires c κs = tt
@@ -58,25 +75,24 @@ returns : tie.Need-returns
 returns c =
     let a = c .before .before .before in
     let s = a .before .before in
-    stopped-there (forms s) (times s ++ deeds s) (s .args .tick .0) (s .args .header .«last_published» .0) (due s) (a .check-state .ensures) _ (c .before .r .given .1)
+    past-refused (step s) (forms s) (times s ++ deeds s) _ (sym (c .before .r .given .1) ∙ a .check-state .ensures)
 
 returns-2 : tie.Need-returns-2
 returns-2 c =
     let t = c .before .before .before in
     let f = t .before in
-    let a = f .before .before in
-    let s = a .before .before in
-    went-on (forms s) (times s ++ deeds s) (s .args .tick .0) (s .args .header .«last_published» .0) (due s) (a .check-state .ensures) (f .enum-told .given .1)
-    (stopped-there (times s) (deeds s) (s .args .tick .0) (s .args .header .«last_published» .0) (due s) (t .check-tick .ensures) _ (c .before .r2 .given .1))
+    let s = f .before .before .before .before in
+    past-refused (step s) (times s) (deeds s) _ (sym (c .before .r2 .given .1) ∙ t .check-tick .ensures)
+    ∙ sym (ap (step s) (past-accepted (forms s) (times s ++ deeds s) (good-state f)))
 
 returns-3 : tie.Need-returns-3
 returns-3 c =
     let t = c .before .before .before in
     let f = t .before in
-    let a = f .before .before in
-    let s = a .before .before in
-    went-on (forms s) (times s ++ deeds s) (s .args .tick .0) (s .args .header .«last_published» .0) (due s) (a .check-state .ensures) (f .enum-told .given .1)
-    (went-on (times s) (deeds s) (s .args .tick .0) (s .args .header .«last_published» .0) (due s) (t .check-tick .ensures) (c .before .enum-told2 .given .1) (c .plan-deed .ensures))
+    let s = f .before .before .before .before in
+    c .plan-deed .ensures
+    ∙ sym (ap (step s) (past-accepted (times s) (deeds s) (good-time (c .before))))
+    ∙ sym (ap (step s) (past-accepted (forms s) (times s ++ deeds s) (good-state f)))
 
 pub plan-tick-spec : {M : Type 1} → statement M
 plan-tick-spec =

@@ -4,9 +4,10 @@ use mathlib.Core.List.{[]}
 use mathlib.Core.Path.{refl}
 use denote.Ref.{now}
 use borrow.Author.Needs.{needs}
-use Rattle.server.proofs.TickLaws.{SizedServer, RowKnown, row-holds, tick-refused, tick-quiet, tick-beat, tick-expired}
+use Rattle.server.proofs.TickLaws.{RowKnown, row-holds, tick-refused, tick-quiet, tick-beat, tick-expired}
 use Rattle.server.proofs.tick.tick.Statement.{statement}
 use Rattle.server.proofs.tick.tick.Tie as tie
+use Rattle.state.proofs.StateLaws.{SizedServer}
 
 -- how long the columns are
 sizes : (s : tie.Start) → SizedServer (s .args .t1)

@@ -2,9 +2,8 @@
 use mathlib.Core.Path.{refl}
 use borrow.Author.Tests.{lt-ltb, le-ltb}
 use Rattle.answers.specs.Refusals.{verdict}
-use Rattle.base.proofs.CheckLaws.{Left, pass, stop, done}
+use Rattle.base.proofs.CheckLaws.{Left, pass, stop, done, asked}
 use Rattle.base.specs.Checks.{firstOf}
-use Rattle.ports.proofs.PortLaws.{asked}
 use Rattle.server.specs.Refusals.{tickChecks}
 use borrow.Author.Needs.{needs}
 use Rattle.server.proofs.time.check_tick.Statement.{statement}

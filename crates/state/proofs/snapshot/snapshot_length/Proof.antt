@@ -50,7 +50,7 @@ sub-i c = search needs
 key-at-requires : tie.Need-key-at-requires Inv-loop μ-loop
 key-at-requires c κs =
     let s = c .before .before .before .before .before .before .before .before in
-    (omega arith, fit-at 96 (s .args .count) (now (s .args .key-lengths)) (few (c .before .before .before .before .before)) (s .pre .1 .0) (c .before .loop .i - 1) (omega arith))
+    (omega arith, fit-at 96 (s .args .count) (now (s .args .key-lengths)) (s .pre .1 .0) (c .before .loop .i - 1) (omega arith))
 
 is-under-requires : tie.Need-is-under-requires Inv-loop μ-loop
 is-under-requires c κs = search needs

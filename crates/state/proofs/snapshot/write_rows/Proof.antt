@@ -48,7 +48,7 @@ loop-holds c =
 key-at-requires : tie.Need-key-at-requires Inv-loop μ-loop
 key-at-requires c κs =
     let s = c .before .before .before .before .before .before .before .before .before in
-    (omega arith, fit-at 96 (s .args .count) (now (s .args .key-lengths)) (few (c .before .before)) (s .pre .1 .0) (c .before .loop .i) (c .loop-test .taken))
+    (omega arith, fit-at 96 (s .args .count) (now (s .args .key-lengths)) (s .pre .1 .0) (c .before .loop .i) (c .loop-test .taken))
 
 is-under-requires : tie.Need-is-under-requires Inv-loop μ-loop
 is-under-requires c κs = search needs
@@ -56,7 +56,7 @@ is-under-requires c κs = search needs
 value-at-requires : tie.Need-value-at-requires Inv-loop μ-loop
 value-at-requires c κs =
     let s = c .before .before .before .before .before .before .before .before .before .before .before .before in
-    (omega arith, fit-at 256 (s .args .count) (now (s .args .value-lengths)) (fits (c .before .before .before .before .before)) (s .pre .1 .1 .0) (c .before .before .before .before .loop .i) (c .before .before .before .loop-test .taken))
+    (omega arith, fit-at 256 (s .args .count) (now (s .args .value-lengths)) (s .pre .1 .1 .0) (c .before .before .before .before .loop .i) (c .before .before .before .loop-test .taken))
 
 mul-t26 : tie.Need-mul-t26 Inv-loop μ-loop
 mul-t26 c = omega arith

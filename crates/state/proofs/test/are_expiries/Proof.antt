@@ -4,7 +4,7 @@ use native.Mathlib.Omega.{arith}
 use native.Mathlib.Numerals.{add-one}
 use mathlib.Core.Bool.{Bool, _&&_}
 use mathlib.Core.Path.{_≡_, refl, sym, ap, _∙_}
-use lib.ListN.{length, getD, take}
+use lib.ListN.{getD, take}
 use denote.Ref.{now}
 use Rattle.base.specs.Bytes.{every}
 use Rattle.state.specs.IllFormed.{isExpiry}

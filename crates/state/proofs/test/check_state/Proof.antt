@@ -1,5 +1,4 @@
 -- `state::test::check_state` meets its contract: it makes the checks of the table one by one, in its order. Assumes nothing.
-use native.Mathlib.Omega.{arith}
 use mathlib.Core.Bool.{true}
 use mathlib.Core.List.{List}
 use mathlib.Core.Path.{_≡_, refl, sym, _∙_}
@@ -9,9 +8,8 @@ use borrow.Author.Needs.{needs}
 use borrow.Author.Tests.{lt-ltb, le-ltb, not-false}
 use Rattle.answers.specs.Refusals.{verdict}
 use Rattle.answers.specs.declared.refusal.Refusal.{Refusal}
-use Rattle.base.proofs.CheckLaws.{Left, pass, stop, done}
+use Rattle.base.proofs.CheckLaws.{Left, pass, stop, done, asked}
 use Rattle.base.specs.Checks.{Check, firstOf}
-use Rattle.ports.proofs.PortLaws.{asked}
 use Rattle.table.specs.Columns.{lengthsFit}
 use Rattle.state.specs.IllFormed.{illForms}
 use Rattle.state.proofs.test.check_state.Statement.{statement}

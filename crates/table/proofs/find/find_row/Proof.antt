@@ -37,7 +37,7 @@ told : (c : tie.After-compare Inv-loop μ-loop)
 told c =
     let l = c .before .before .before .loop in
     let a = c .before .before .before .before .before .before .args in
-    ap (λ (x : Bytes). orderOf x (now (a .key))) (text-is 96 (a .count) (now (a .lengths)) (omega arith) (now (a .keys)) (middle (l .lo) (l .hi)) (omega arith) (c .before .key-at .ensures)) ∙ sym (c .compare .ensures)
+    ap (λ (x : Bytes). orderOf x (now (a .key))) (text-is 96 (a .count) (now (a .lengths)) (now (a .keys)) (middle (l .lo) (l .hi)) (omega arith) (c .before .key-at .ensures)) ∙ sym (c .compare .ensures)
 
 loop-holds : tie.Need-loop-holds Inv-loop μ-loop
 loop-holds c =
@@ -55,7 +55,7 @@ key-at-requires : tie.Need-key-at-requires Inv-loop μ-loop
 key-at-requires c κs =
     let l = c .before .loop in
     let s = c .before .before .before .before in
-    (omega arith, fit-at 96 (s .args .count) (now (s .args .lengths)) (omega arith) (s .pre .1 .0) (middle (l .lo) (l .hi)) (omega arith))
+    (omega arith, fit-at 96 (s .args .count) (now (s .args .lengths)) (s .pre .1 .0) (middle (l .lo) (l .hi)) (omega arith))
 
 compare-requires : tie.Need-compare-requires Inv-loop μ-loop
 compare-requires c κs = tt

@@ -26,7 +26,7 @@ told : (c : tie.After-is-key Inv-loop μ-loop)
 told c =
     let l = c .before .before .before .loop in
     let a = c .before .before .before .before .before .args in
-    ap isKey (text-is 96 (a .count) (now (a .lengths)) (omega arith) (now (a .all)) (l .i) (omega arith) (c .before .key-at .ensures)) ∙ sym (c .is-key .ensures)
+    ap isKey (text-is 96 (a .count) (now (a .lengths)) (now (a .all)) (l .i) (omega arith) (c .before .key-at .ensures)) ∙ sym (c .is-key .ensures)
 
 loop-holds : tie.Need-loop-holds Inv-loop μ-loop
 loop-holds c = (omega arith, refl)
@@ -34,7 +34,7 @@ loop-holds c = (omega arith, refl)
 key-at-requires : tie.Need-key-at-requires Inv-loop μ-loop
 key-at-requires c κs =
     let s = c .before .before .before in
-    (omega arith, fit-at 96 (s .args .count) (now (s .args .lengths)) (omega arith) (s .pre .1) (c .before .loop .i) (omega arith))
+    (omega arith, fit-at 96 (s .args .count) (now (s .args .lengths)) (s .pre .1) (c .before .loop .i) (omega arith))
 
 is-key-requires : tie.Need-is-key-requires Inv-loop μ-loop
 is-key-requires c κs = tt

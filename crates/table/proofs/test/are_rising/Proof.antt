@@ -4,7 +4,7 @@ use Prim.Native.Nat.{_-_, _≤_}
 use native.Mathlib.Omega.{arith}
 use mathlib.Core.List.{[]}
 use mathlib.Core.Path.{_≡_, refl, sym, ap₂, _∙_}
-use lib.ListN.{length, getD, drop}
+use lib.ListN.{getD, drop}
 use denote.Ref.{now}
 use borrow.Author.Needs.{needs}
 use Rattle.names.specs.Order.{orderOf}
@@ -27,8 +27,7 @@ told : (c : tie.After-compare Inv-loop μ-loop)
 told c =
     let l = c .before .before .before .before .loop in
     let a = c .before .before .before .before .before .before .args in
-    let f : a .count ≤ length (now (a .lengths)) = omega arith in
-    ap₂ orderOf (text-is 96 (a .count) (now (a .lengths)) f (now (a .all)) (l .i - 1) (omega arith) (c .before .before .key-at .ensures)) (text-is 96 (a .count) (now (a .lengths)) f (now (a .all)) (l .i) (omega arith) (c .before .key-at2 .ensures)) ∙ sym (c .compare .ensures)
+    ap₂ orderOf (text-is 96 (a .count) (now (a .lengths)) (now (a .all)) (l .i - 1) (omega arith) (c .before .before .key-at .ensures)) (text-is 96 (a .count) (now (a .lengths)) (now (a .all)) (l .i) (omega arith) (c .before .key-at2 .ensures)) ∙ sym (c .compare .ensures)
 
 loop-holds : tie.Need-loop-holds Inv-loop μ-loop
 loop-holds c = (omega arith, refl)
@@ -39,12 +38,12 @@ sub-key-at c = omega arith
 key-at-requires : tie.Need-key-at-requires Inv-loop μ-loop
 key-at-requires c κs =
     let s = c .before .before .before in
-    (omega arith, fit-at 96 (s .args .count) (now (s .args .lengths)) (omega arith) (s .pre .1) (c .before .loop .i - 1) (omega arith))
+    (omega arith, fit-at 96 (s .args .count) (now (s .args .lengths)) (s .pre .1) (c .before .loop .i - 1) (omega arith))
 
 key-at-requires-2 : tie.Need-key-at-requires-2 Inv-loop μ-loop
 key-at-requires-2 c κs =
     let s = c .before .before .before .before in
-    (omega arith, fit-at 96 (s .args .count) (now (s .args .lengths)) (omega arith) (s .pre .1) (c .before .before .loop .i) (omega arith))
+    (omega arith, fit-at 96 (s .args .count) (now (s .args .lengths)) (s .pre .1) (c .before .before .loop .i) (omega arith))
 
 compare-requires : tie.Need-compare-requires Inv-loop μ-loop
 compare-requires c κs = tt

@@ -1,4 +1,4 @@
--- The part that is handed out is as long as the value. Assumes nothing.
+-- `table::text::value_at` meets its contract: the part that is handed out is as long as the value. Assumes nothing.
 use Prim.Native.Nat.{ℕ}
 use mathlib.Core.Path.{ap, _∙_}
 use lib.ListN.{take}
@@ -7,28 +7,19 @@ use borrow.Author.Needs.{needs}
 use Rattle.cells.specs.Cells.{cellAt}
 use Rattle.table.proofs.text.value_at.Statement.{statement}
 use Rattle.table.proofs.text.value_at.Tie as tie
-use Rattle.table.proofs.text.value_at.Reads as reads
-use Rattle.table.proofs.text.value_at.Lts as lts
-use Rattle.cells.proofs.cell.part.Reads as part-reads
-use Rattle.table.proofs.text.size.Reads as size-reads
 
--- src/text.rt:27:37
 mul-size : tie.Need-mul-size
 mul-size c = search needs
 
--- src/text.rt:27:37
 element-copy-out-size : tie.Need-element-copy-out-size
 element-copy-out-size c = search needs
 
--- src/text.rt:27:32
 size-requires : tie.Need-size-requires
 size-requires c κs = search needs
 
--- src/text.rt:27:5
 part-requires : tie.Need-part-requires
 part-requires c κs = search needs
 
--- src/text.rt:23:1
 returns : tie.Need-returns
 returns c =
     let a = c .before .before .before .before .args in
