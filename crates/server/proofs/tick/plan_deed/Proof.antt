@@ -58,7 +58,7 @@ returns-3 c =
     let d = c .before .before .before in
     let s = d .before .before .before .before .before in
     is-quiet (keysIn s) (s .args .tick .0) (s .args .header .«last_published» .0) (s .args .header .number .0) (s .args .room) (s .args .count) (now (s .args .expiries))
-    (d .before .before .due-row .ensures) (d .enum-told .given .1) (c .if3 .taken)
+    (d .before .before .due-row .ensures) (d .enum-told .given .1) (omega (arith, c .if3 .taken))
 
 returns-4 : tie.Need-returns-4
 returns-4 c =

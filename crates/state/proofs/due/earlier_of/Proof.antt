@@ -1,4 +1,5 @@
 -- `state::earlier_of` meets its contract: each way through it is one of the four cases of `earlier`. Assumes nothing.
+use native.Mathlib.Omega.{arith}
 use borrow.Author.Needs.{needs}
 use Rattle.state.proofs.DueLaws.{not-due, only-due, goes-later, goes-first}
 use Rattle.state.proofs.due.earlier_of.Statement.{statement}
@@ -7,7 +8,7 @@ use Rattle.state.proofs.due.earlier_of.Tie as tie
 returns : tie.Need-returns
 returns c =
     let a = c .before .before .args in
-    not-due (a .tick .0) (a .at) (a .expiry) (a .rest) (c .if1 .taken)
+    not-due (a .tick .0) (a .at) (a .expiry) (a .rest) (omega (arith, c .if1 .taken))
 
 enum-told : tie.Need-enum-told
 enum-told c = search needs
