@@ -1,13 +1,23 @@
 -- Answers as numbers: the kind, the number of the state after the call, and the refusal.
 use Prim.Native.Nat.{ℕ}
+use mathlib.Core.Option.{Option, none, some}
+use lib.ListN.{length}
 use Rattle.answers.specs.Refusals.{refusalNumber}
 use Rattle.answers.specs.declared.answer.Answer.{Answer}
 use Rattle.answers.specs.declared.answer.Kind.the-variants.{Refused, Started, Applied, Stale, Outside, Synced, Live, Heard, Wrote, Nothing, Found, Absent, Present, Gone}
 use Rattle.answers.specs.declared.answer.Kind.{Kind}
+use Rattle.answers.specs.declared.refusal.Refusal.{Refusal}
+use Rattle.base.specs.Bytes.{Bytes}
 use Rattle.names.specs.declared.numbers.Sequence.{Sequence}
 
 abbrev pub answer : Kind → ℕ → Answer
 answer kind written = record { kind = kind; written = written }
+
+-- what a call answers that may have been refused: a refused one tells the number of the state that it was given, and an accepted one its kind and how
+-- many bytes it wrote
+abbrev pub answerBy : Option Refusal → Sequence → Kind → Bytes → Answer
+answerBy none number kind bytes = answer kind (length bytes)
+answerBy (some r) number kind bytes = answer (Refused r number) 0
 
 -- the number by which hosts know each kind
 abbrev pub kindNumber : Kind → ℕ

@@ -34,3 +34,8 @@ verdict (some r) = Refuse r
 abbrev pub verdictNumber : Verdict → ℕ
 verdictNumber Accept = 0
 verdictNumber (Refuse r) = refusalNumber r
+
+-- what holds after a call that is accepted, and after one that is refused
+abbrev pub ifAccepted : {A : Type 0} → Option Refusal → A → A → A
+ifAccepted none accepted refused = accepted
+ifAccepted (some r) accepted refused = refused

@@ -40,6 +40,10 @@ pub not-empty : (s : Bytes) → (length s ≡ 0 → ⊥) → isNil s ≡ false
 not-empty [] h = absurd (h refl)
 not-empty (b ∷ s) h = refl
 
+pub nil-length : (s : Bytes) → eqb (length s) 0 ≡ isNil s
+nil-length [] = refl
+nil-length (b ∷ s) = ne-eqb (suc (length s)) 0 (λ e. omega arith)
+
 pub some-bytes : (s : Bytes) → isNil s ≡ false → 0 < length s
 some-bytes [] h = absurd (let z : _≡_ {A = ℕ} 0 1 = cc in omega arith)
 some-bytes (b ∷ s) h = omega arith

@@ -74,3 +74,11 @@ module _ {R : Type 0} where
       go : (t : Option R) → firstOf a ≡ t → (firstOf a ≡ none) × (firstOf b ≡ none)
       go none f = (f, sym (pass-all a b f) ∙ e)
       go (some r) f = none-not-some r (sym e ∙ stop-all a b r f)
+
+  -- tables behind another that come to the same where it lets all pass
+  pub same-behind : (a b c : List (Check R)) → (firstOf a ≡ none → firstOf b ≡ firstOf c) → firstOf (a ++ b) ≡ firstOf (a ++ c)
+  same-behind a b c same = go (firstOf a) refl
+    where
+      go : (t : Option R) → firstOf a ≡ t → firstOf (a ++ b) ≡ firstOf (a ++ c)
+      go none e = pass-all a b e ∙ same e ∙ sym (pass-all a c e)
+      go (some r) e = stop-all a b r e ∙ sym (stop-all a c r e)

@@ -1,5 +1,6 @@
-// Comparing bytes, and finding one.
+// Comparing bytes, finding one, and parts of them.
 ghost use mathlib.Core.Path.{_≡_};
+ghost use lib.ListN.{take, drop};
 ghost use Rattle.base.specs.Bytes.{prefix, same};
 ghost use Rattle.base.specs.Cuts.{foundOf};
 
@@ -48,4 +49,24 @@ pub fn find_byte(s: &[u8], b: u8) -> Position
         i += 1;
     }
     Position::Nowhere
+}
+
+// The first n bytes of s, or all of them where it has fewer.
+pub fn front(s: &[u8], n: usize) -> &[u8]
+    ensures { λ r. ⌜ now r ≡ take n (now (s .entry)) ⌝ }
+{
+    if s.len() < n {
+        return &s[..];
+    }
+    &s[..n]
+}
+
+// What stands behind the first n bytes of s.
+pub fn behind(s: &[u8], n: usize) -> &[u8]
+    ensures { λ r. ⌜ now r ≡ drop n (now (s .entry)) ⌝ }
+{
+    if s.len() < n {
+        return &s[..0];
+    }
+    &s[n..]
 }

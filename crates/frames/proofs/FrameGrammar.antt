@@ -42,7 +42,7 @@ record Front (s : Bytes) (start len : ℕ) (more : Bool) : Type 0 where
   pub is : IsFrame more (take len (drop start s)) front
   pub whole : s ≡ front ++ drop len (drop start s)
 
-held-known : (a len left : ℕ) (more : Bool) (start n : ℕ) (m : Bool) → held a len left more ≡ Frame start n m → (len ≤ left) × (a ≡ start) × (len ≡ n) × (more ≡ m)
+pub held-known : (a len left : ℕ) (more : Bool) (start n : ℕ) (m : Bool) → held a len left more ≡ Frame start n m → (len ≤ left) × (a ≡ start) × (len ≡ n) × (more ≡ m)
 held-known a len left more start n m e = go (leb len left) refl e
   where
     go : (t : Bool) → leb len left ≡ t → cond t (Frame a len more) Broken ≡ Frame start n m → (len ≤ left) × (a ≡ start) × (len ≡ n) × (more ≡ m)
@@ -109,7 +109,7 @@ module _ (start len : ℕ) (m : Bool) where
       go (suc (suc (suc (suc n)))) o e = absurd (let z : _≡_ {A = ℕ} 0 1 = cc in omega arith)
 
 -- ---- the whole message
-ended : (body rest : Bytes) (bodies : List Bytes) → last body rest ≡ some bodies → (rest ≡ []) × (bodies ≡ body ∷ [])
+pub ended : (body rest : Bytes) (bodies : List Bytes) → last body rest ≡ some bodies → (rest ≡ []) × (bodies ≡ body ∷ [])
 ended body [] bodies e = (refl, cc)
 ended body (x ∷ rest) bodies e = none-some bodies e
 

@@ -1,4 +1,5 @@
 pub mod FrameGrammar
 pub mod FrameLaws
 pub mod MessageLaws
+pub mod RunLaws
 pub mod StepLaws

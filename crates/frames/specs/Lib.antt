@@ -1,3 +1,4 @@
 pub mod Grammar
 pub mod Messages
+pub mod Runs
 pub mod Steps

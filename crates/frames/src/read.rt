@@ -4,6 +4,7 @@ use crate::step::Step;
 ghost use mathlib.Core.Path.{_≡_};
 ghost use Rattle.frames.specs.Steps.{stepOf};
 ghost use Rattle.frames.specs.Messages.{framingOf, bodyOf, restOf, bodyAt};
+ghost use Rattle.frames.specs.Runs.{messageIn};
 
 // The framing of a whole message: sound, with so many frames, or unsound.
 pub enum Framing {
@@ -74,4 +75,20 @@ pub fn body(msg: &[u8], k: usize) -> &[u8]
         i -= 1;
     }
     first_body(rest)
+}
+
+// The message that some bytes begin with, up to its last frame. No bytes where they begin with no whole message.
+pub fn first_message(s: &[u8]) -> &[u8]
+    ensures { λ r. ⌜ now r ≡ messageIn (now (s .entry)) ⌝ }
+{
+    let mut end = 0;
+    loop {
+        let Step::Frame { start, len, more } = step::first_frame(&s[end..]) else {
+            return &s[..0];
+        };
+        end += start + len;
+        if !more {
+            return &s[..end];
+        }
+    }
 }

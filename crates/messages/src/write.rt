@@ -8,7 +8,7 @@ ghost use mathlib.Core.Path.{_≡_};
 ghost use Prim.Native.Nat.{min};
 ghost use Rattle.base.specs.Output.{Written, largest};
 ghost use Rattle.base.specs.Octets.{octets};
-ghost use Rattle.messages.specs.Fields.{fields, bytesOf, messageLength, kvset, kvpub, kvsync, kthxbai, hugz, icanhaz, identityFrame};
+ghost use Rattle.messages.specs.Fields.{fields, bytesOf, messageLength, kvset, kvpub, kvsync, kthxbai, hugz, icanhaz};
 
 // How many bytes a message of five frames takes, by the lengths of its bodies, or the largest number where that is larger.
 pub fn message_length(head: usize, uuid: usize, properties: usize, value: usize) -> usize

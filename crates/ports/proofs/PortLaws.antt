@@ -13,7 +13,7 @@ use Rattle.answers.specs.Refusals.{verdict}
 use Rattle.answers.specs.declared.refusal.Refusal.{Refusal}
 use Rattle.answers.specs.declared.refusal.Verdict.the-variants.{Accept}
 use Rattle.base.proofs.ByteLaws.{is-empty, not-empty}
-use Rattle.base.proofs.CheckLaws.{passed}
+use Rattle.base.proofs.CheckLaws.{passed, both-passed}
 use Rattle.base.specs.Bytes.{Bytes, isNil}
 use Rattle.base.specs.Checks.{Check, firstOf}
 use Rattle.base.specs.Octets.{number}
@@ -78,6 +78,17 @@ module _ (msg : Bytes) (e : Accept ≡ verdict (firstOf (framed 5 msg))) where
   -- what the checks of the bodies come to is what those of the port come to
   pub by-fields : (checks : Fields → List (Check Refusal)) → verdict (firstOf (checks (bodiesOf msg))) ≡ verdict (firstOf (framed 5 msg ++ checks (fieldsOf msg)))
   by-fields checks = rw (fields-are, past-accepted (framed 5 msg) (checks (fieldsOf msg)) e)
+
+-- a message that a port lets pass, of whose table the framing is the first part
+module _ (n : ℕ) (msg : Bytes) (behind : List (Check Refusal)) (e : firstOf (framed n msg ++ behind) ≡ none) where
+  framing-good : Accept ≡ verdict (firstOf (framed n msg))
+  framing-good = rw (both-passed (framed n msg) behind e .0)
+
+  pub port-frame : (k : ℕ) → k < n → bodyAt k msg ≡ frameAt k msg
+  port-frame k h = frame-is n msg framing-good k h
+
+pub port-fields : (msg : Bytes) (behind : List (Check Refusal)) → firstOf (framed 5 msg ++ behind) ≡ none → bodiesOf msg ≡ fieldsOf msg
+port-fields msg behind e = fields-are msg (framing-good 5 msg behind e)
 
 -- ---- tests of a part of the message, x, that the table makes of its body, y
 module _ {x y : Bytes} (e : x ≡ y) where

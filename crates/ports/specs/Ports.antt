@@ -1,11 +1,11 @@
--- What each port refuses by the frames of a message alone: tables of checks, in the order of the refusals.
+-- What each port refuses by the frames of a message alone, and a call by its tick: tables of checks, in the order of the refusals.
 use Prim.Native.Nat.{ℕ}
 use mathlib.Core.Bool.{Bool, true, false, cond, not}
 use mathlib.Core.List.{List, [], _∷_, _++_}
 use mathlib.Core.Option.{Option, none, some}
-use lib.Dec.{leb, eqb}
+use lib.Dec.{leb, ltb, eqb}
 use lib.ListN.{length}
-use Rattle.answers.specs.declared.refusal.Refusal.the-variants.{Framing, FrameCount, Word, BadKey, BadSubtree, BadSequence, BadUuid, BadProperties, BadValue, BadIdentity}
+use Rattle.answers.specs.declared.refusal.Refusal.the-variants.{Framing, FrameCount, Word, BadKey, BadSubtree, BadSequence, BadUuid, BadProperties, BadValue, BadTick, BadIdentity}
 use Rattle.answers.specs.declared.refusal.Refusal.{Refusal}
 use Rattle.base.specs.Bytes.{Bytes, isNil, same}
 use Rattle.base.specs.Checks.Check.{when}
@@ -15,7 +15,7 @@ use Rattle.frames.specs.Messages.{framesIn}
 use Rattle.messages.specs.Fields.{Fields, partsOf, frameAt, fieldsOf}
 use Rattle.names.specs.Keys.{isKey, isSubtree, under}
 use Rattle.names.specs.Lengths.{isUuid, isIdentity, isValue}
-use Rattle.names.specs.Numbers.{maxSequence, isSequence}
+use Rattle.names.specs.Numbers.{maxSequence, maxTick, isSequence}
 use Rattle.names.specs.Words.{wordIcanhaz, wordKthxbai, wordHugz}
 use Rattle.properties.specs.Properties.{propertiesOf, isGood}
 
@@ -121,6 +121,14 @@ snapshotPort subtree msg = framed 5 msg ++ snapshotChecks subtree (fieldsOf msg)
 -- the client's for what is published: HUGZ, or else KVPUB
 abbrev pub subscriberPort : Bytes → List (Check Refusal)
 subscriberPort msg = framed 5 msg ++ publishedChecks (fieldsOf msg)
+
+-- ---- the tick of a call
+-- out of range, or below the last one
+abbrev pub tickChecks : ℕ → ℕ → List (Check Refusal)
+tickChecks last t =
+    when (not (leb t maxTick)) BadTick
+    ∷ when (ltb t last) BadTick
+    ∷ []
 
 -- ---- the value entries
 -- any five frames

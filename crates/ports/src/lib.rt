@@ -4,5 +4,6 @@ pub mod icanhaz;
 pub mod kvset;
 pub mod snapshot;
 pub mod subscriber;
+pub mod time;
 pub mod update;
 pub mod value;

@@ -2,32 +2,28 @@
 -- comes to the refusal of a call. Assumes nothing.
 use Prim.Native.Nat.{ℕ}
 use native.Mathlib.Omega.{arith}
-use mathlib.Core.List.{List, [], _++_}
-use mathlib.Core.Option.{Option, none, some}
-use mathlib.Core.Path.{_≡_, refl, sym, _∙_}
+use mathlib.Core.List.{List, _++_}
+use mathlib.Core.Option.{none, some}
+use mathlib.Core.Path.{_≡_, refl, sym}
 use lib.ListN.{length}
 use Rattle.answers.specs.Answers.{answer}
 use Rattle.answers.specs.declared.answer.Kind.the-variants.{Refused}
 use Rattle.answers.specs.declared.refusal.Refusal.{Refusal}
-use Rattle.base.proofs.CheckLaws.{pass-all, stop-all}
+use Rattle.base.proofs.CheckLaws.{pass-all, same-behind}
+use Rattle.base.proofs.OutputLaws.{put-nothing}
 use Rattle.base.specs.Bytes.{Bytes}
 use Rattle.base.specs.Checks.{Check, firstOf}
 use Rattle.base.specs.Output.{put}
-use Rattle.server.specs.Answers.{acceptedKind, answerFor}
-use Rattle.server.specs.Calls.{Call}
-use Rattle.server.specs.Next.{acceptedNext, nextOf}
-use Rattle.server.specs.Output.{acceptedBytes, bytesFor}
+use Rattle.server_plan.specs.Answers.{acceptedKind, answerFor}
+use Rattle.server_plan.specs.Calls.{Call}
+use Rattle.server_plan.specs.Next.{acceptedNext, nextOf}
+use Rattle.server_plan.specs.Output.{acceptedBytes, bytesFor}
 use Rattle.server.specs.Promises.{Answered}
-use Rattle.server.specs.Refusals.{callChecks, refusalOf}
+use Rattle.server_plan.specs.Refusals.{callChecks, refusalOf}
 use Rattle.server.specs.declared.Reply.{Reply}
-use Rattle.state.specs.IllFormed.{illFormsOf, WellFormed}
-use Rattle.state.specs.Views.{view, ledgerOf}
-use Rattle.state.specs.declared.Server.{Server}
-
--- no bytes change nothing
-put-nothing : (d : Bytes) → put d 0 [] ≡ d
-unfolding put
-put-nothing d = refl
+use Rattle.server_state.specs.IllFormed.{illFormsOf, WellFormed}
+use Rattle.server_state.specs.Views.{view, ledgerOf}
+use Rattle.server_state.specs.declared.Server.{Server}
 
 -- a refused call: the state and the output as they were, and the answer with the state's own number
 pub refused-call : (s : Server) (x : Call) (out : Bytes) (r : Reply) (reason : Refusal) → refusalOf s x ≡ some reason → r .state ≡ s
@@ -63,8 +59,4 @@ well-refusal s x w = pass-all (illFormsOf s) (callChecks (ledgerOf (view s)) x) 
 pub refusal-is : (s : Server) (x : Call) (checks : List (Check Refusal)) → (WellFormed s → firstOf checks ≡ firstOf (callChecks (ledgerOf (view s)) x))
     → firstOf (illFormsOf s ++ checks) ≡ refusalOf s x
 unfolding refusalOf
-refusal-is s x checks same = go (firstOf (illFormsOf s)) refl
-  where
-    go : (t : Option Refusal) → firstOf (illFormsOf s) ≡ t → firstOf (illFormsOf s ++ checks) ≡ firstOf (illFormsOf s ++ callChecks (ledgerOf (view s)) x)
-    go none e = pass-all (illFormsOf s) checks e ∙ same e ∙ sym (well-refusal s x e)
-    go (some r) e = stop-all (illFormsOf s) checks r e ∙ sym (stop-all (illFormsOf s) (callChecks (ledgerOf (view s)) x) r e)
+refusal-is s x checks same = same-behind (illFormsOf s) checks (callChecks (ledgerOf (view s)) x) same

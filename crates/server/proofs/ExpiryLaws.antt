@@ -12,9 +12,9 @@ use Rattle.properties.specs.declared.read.Lifetime.the-variants.{Seconds}
 use Rattle.properties.specs.declared.read.Lifetime.{Lifetime}
 use Rattle.properties.specs.declared.read.Properties.the-variants.{Good}
 use Rattle.properties.specs.declared.read.Properties.{Properties}
-use Rattle.server.specs.Next.{expiryAt}
-use Rattle.state.specs.IllFormed.{isExpiry, maxExpiry}
-use Rattle.state.specs.Views.{expiryIn, never}
+use Rattle.server_plan.specs.Next.{expiryAt}
+use Rattle.server_state.specs.IllFormed.{isExpiry, maxExpiry}
+use Rattle.server_state.specs.Views.{expiryIn, never}
 
 module _ (t n : ℕ) (s : Bytes) {p : Properties} {l : Lifetime} (read : p ≡ propertiesOf s) (good : p ≡ Good l) (seconds : l ≡ Seconds n) (h : t ≤ maxTick) where
   says : propertiesOf s ≡ Good (Seconds n)

@@ -1,8 +1,6 @@
 pub mod AnswerLaws
 pub mod ExpiryLaws
 pub mod IcanhazLaws
-pub mod KvsetLaws
-pub mod LengthLaws
 pub mod QuietLaws
 pub mod RunLaws
 pub mod StartLaws

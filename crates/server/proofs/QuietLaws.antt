@@ -8,6 +8,7 @@ use mathlib.Core.Path.{_≡_, refl, sym, ap, _∙_}
 use lib.Dec.{leb, ltb, eqb}
 use lib.ListN.{length}
 use borrow.Author.Tests.{leb-true, leb-false, le-leb, le-ltb, lt-leb}
+use Rattle.ports.specs.Ports.{tickChecks}
 use Rattle.answers.specs.Answers.{answer}
 use Rattle.answers.specs.declared.answer.Kind.the-variants.{Refused, Nothing}
 use Rattle.answers.specs.declared.refusal.Refusal.the-variants.{Exhausted}
@@ -21,25 +22,25 @@ use Rattle.names.specs.Numbers.{maxSequence, maxTick}
 use Rattle.rows.proofs.RowLaws.{map-remove, map-length, map-keys, sorted-map, sorted-remove, rising-sorted, every-remove}
 use Rattle.rows.specs.Rows.{Rows, removeRow, keysIn, Sorted, mapRows, rising}
 use Rattle.server.proofs.AnswerLaws.{well-refusal}
-use Rattle.server.proofs.LengthLaws.{expiry-bound, hugz-length}
-use Rattle.server.specs.Answers.{answerFor}
-use Rattle.server.specs.Calls.{tick}
-use Rattle.server.specs.Deeds.{Deed, expire, beat, quiet, deedOf, deed}
-use Rattle.server.specs.Next.{tickNext, acceptedNext, nextOf}
-use Rattle.server.specs.Output.{tickBytes, acceptedBytes, bytesFor}
+use Rattle.server_plan.proofs.LengthLaws.{expiry-bound, hugz-length}
+use Rattle.server_plan.specs.Answers.{answerFor}
+use Rattle.server_plan.specs.Calls.{tick}
+use Rattle.server_plan.specs.Deeds.{Deed, expire, beat, quiet, deedOf, deed}
+use Rattle.server_plan.specs.Next.{tickNext, acceptedNext, nextOf}
+use Rattle.server_plan.specs.Output.{tickBytes, acceptedBytes, bytesFor}
 use Rattle.server.specs.Promises.{Answered}
-use Rattle.server.specs.Refusals.{expiry, tickChecks, deedChecks, callChecks}
+use Rattle.server_plan.specs.Refusals.{expiry, deedChecks, callChecks}
 use Rattle.server.specs.Repeats.QuietBy.{quietens, stops}
 use Rattle.server.specs.Repeats.SilentBy.{silent, spent}
 use Rattle.server.specs.Repeats.{tickStep, ticked, QuietBy, Ticking, SilentBy}
 use Rattle.server.specs.declared.Reply.{Reply}
-use Rattle.state.proofs.DueLaws.{dueCount, count-due, count-length, count-none, count-some, due-key}
-use Rattle.state.proofs.FormLaws.{good-server}
-use Rattle.state.proofs.StateLaws.{SizedServer, as-long, rows-long}
-use Rattle.state.specs.Due.{leastDue}
-use Rattle.state.specs.IllFormed.{WellFormed}
-use Rattle.state.specs.Views.{Held, Entry, Ledger, plain, ledgerOf, view, keysOf, heldOf}
-use Rattle.state.specs.declared.Server.{Server}
+use Rattle.server_state.proofs.DueLaws.{dueCount, count-due, count-length, count-none, count-some, due-key}
+use Rattle.server_state.proofs.FormLaws.{good-server}
+use Rattle.server_state.proofs.StateLaws.{as-long, rows-long}
+use Rattle.server_state.specs.Due.{leastDue}
+use Rattle.server_state.specs.IllFormed.{WellFormed}
+use Rattle.server_state.specs.Views.{Held, Entry, Ledger, plain, ledgerOf, view, keysOf, heldOf, SizedServer}
+use Rattle.server_state.specs.declared.Server.{Server}
 use Rattle.table.proofs.FindLaws.{keys-in-rows}
 
 -- ---- one Tick
@@ -161,7 +162,7 @@ sixty-fifth v t room s l k h late enough = quiet-by t room late enough v s l k h
 -- ---- the same from a well-formed state
 module _ (s : Server) (z : SizedServer s) (w : WellFormed s) where
   few-rows : s .table .count ≤ 64
-  few-rows = good-server s w .count
+  few-rows = good-server s w .rows .count
 
   keys-held : keysIn (view s .rows) ≡ keysOf s
   unfolding view
@@ -175,7 +176,7 @@ module _ (s : Server) (z : SizedServer s) (w : WellFormed s) where
   unfolding view
   state-quiet t room h late enough =
       let g = good-server s w in
-      sixty-fifth (view s) t room (rising-sorted (view s .rows) (ap rising keys-held ∙ g .rise)) rows-few (ap (every isKey) keys-held ∙ g .are-keys) h late enough
+      sixty-fifth (view s) t room (rising-sorted (view s .rows) (ap rising keys-held ∙ g .rows .rise)) rows-few (ap (every isKey) keys-held ∙ g .rows .are-keys) h late enough
 
 -- ---- the calls on a server
 -- one Tick more, at the end

@@ -19,10 +19,11 @@ use Rattle.rows.specs.Rows.{rising}
 use Rattle.server.specs.Promises.{Began}
 use Rattle.server.specs.Start.{startChecks, startRefusal, startOf, startAnswer, emptyAt, headerAt}
 use Rattle.server.specs.declared.Reply.{Reply}
-use Rattle.state.proofs.FormLaws.{server-good}
-use Rattle.state.specs.IllFormed.{WellFormed}
-use Rattle.state.specs.Views.{view, entriesOf}
-use Rattle.state.specs.declared.Server.{Server}
+use Rattle.server_state.proofs.FormLaws.{server-good}
+use Rattle.server_state.specs.IllFormed.{WellFormed}
+use Rattle.server_state.specs.Views.{view, entriesOf}
+use Rattle.server_state.specs.declared.Server.{Server}
+use Rattle.table.proofs.TableLaws.{no-rows}
 use Rattle.table.specs.Columns.{texts, rowsOf}
 
 module _ (n t : ℕ) (s : Server) (none-held : s .table .count ≡ 0) (stands : s .header ≡ headerAt n t) where
@@ -35,11 +36,7 @@ module _ (n t : ℕ) (s : Server) (none-held : s .table .count ≡ 0) (stands : 
   empty-good h k =
       server-good s
       (record {
-        count = rw none-held (omega arith);
-        key-lengths = rw none-held refl;
-        are-keys = rw none-held refl;
-        rise = rw none-held refl;
-        value-lengths = rw none-held refl;
+        rows = no-rows (s .table) none-held;
         are-below = rw none-held refl;
         number = rw stands h;
         published = rw stands (omega arith);

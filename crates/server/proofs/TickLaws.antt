@@ -1,6 +1,6 @@
--- Laws of Tick: what it is found to come to, what is known where a row is to expire, and that each of its ways gives what it promises.
+-- Laws of Tick: what is known where a row is to expire, and that each of its ways gives what it promises.
 -- Assumes nothing.
-use Prim.Native.Nat.{ℕ, suc, _+_, _-_, _≤_, _<_, min}
+use Prim.Native.Nat.{ℕ, suc, _+_, _-_, _≤_, _<_}
 use native.Mathlib.Nat.{zero-add}
 use native.Mathlib.Omega.{arith}
 use mathlib.Core.Bool.{Bool, true, false, cond}
@@ -9,107 +9,51 @@ use mathlib.Core.Option.{Option, none, some}
 use mathlib.Core.Path.{_≡_, refl, sym, ap, _∙_}
 use lib.Dec.{leb}
 use lib.ListN.{length, getD, take, length-take}
-use borrow.Author.Tests.{ltb-false, leb-true, eqb-false, not-false, lt-ltb, le-ltb, le-leb, lt-leb, eq-eqb, ne-eqb}
-use Rattle.answers.proofs.VerdictLaws.{accepted}
+use borrow.Author.Tests.{ltb-false, leb-true, eqb-false, not-false}
+use Rattle.ports.specs.Ports.{tickChecks}
 use Rattle.answers.specs.Answers.{answer}
-use Rattle.answers.specs.Refusals.{verdict}
 use Rattle.answers.specs.declared.answer.Answer.{Answer}
 use Rattle.answers.specs.declared.answer.Kind.the-variants.{Refused as Told, Wrote, Nothing as Silent}
-use Rattle.answers.specs.declared.refusal.Refusal.the-variants.{BadTick, Exhausted, ShortOutput}
+use Rattle.answers.specs.declared.refusal.Refusal.the-variants.{BadTick}
 use Rattle.answers.specs.declared.refusal.Refusal.{Refusal}
-use Rattle.answers.specs.declared.refusal.Verdict.the-variants.{Accept}
-use Rattle.answers.specs.declared.refusal.Verdict.{Verdict}
 use Rattle.base.proofs.CheckLaws.{passed, both-passed}
 use Rattle.base.proofs.OutputLaws.{output, place}
 use Rattle.base.specs.Bytes.{Bytes}
 use Rattle.base.specs.Checks.{Check, firstOf}
-use Rattle.base.specs.Output.{largest, put, Written}
+use Rattle.base.specs.Output.{put, Written}
 use Rattle.cells.specs.Cells.{cellAt}
-use Rattle.messages.specs.Fields.{bytesOf, kvpub, hugz, messageLength}
+use Rattle.messages.specs.Fields.{bytesOf, kvpub, hugz}
 use Rattle.names.specs.Numbers.{sequence, maxSequence, maxTick}
 use Rattle.names.specs.declared.numbers.Sequence.{Sequence}
 use Rattle.names.specs.declared.numbers.Tick.{Tick}
 use Rattle.rows.specs.Rows.{removeRow}
 use Rattle.server.proofs.AnswerLaws.{refused-call, accepted-call, refusal-is}
-use Rattle.server.proofs.LengthLaws.{expiry-length, hugz-length}
-use Rattle.server.specs.Answers.{tickKind}
-use Rattle.server.specs.Calls.{Call, tick}
-use Rattle.server.specs.Deeds.{Deed, expire, beat, quiet, deed, deedOf}
-use Rattle.server.specs.Next.{acceptedNext, tickNext}
-use Rattle.server.specs.Output.{acceptedBytes, tickBytes}
-use Rattle.server.specs.Plans.{deedAt, stepOf}
+use Rattle.server_plan.specs.Answers.{tickKind}
+use Rattle.server_plan.specs.Calls.{Call, tick}
+use Rattle.server_plan.specs.Deeds.{Deed, expire, beat, quiet, deed, deedOf}
+use Rattle.server_plan.specs.Next.{acceptedNext, tickNext}
+use Rattle.server_plan.specs.Output.{acceptedBytes, tickBytes}
+use Rattle.server_plan.specs.Plans.{deedAt, stepOf}
 use Rattle.server.specs.Promises.{Answered}
-use Rattle.server.specs.Refusals.{expiry, tickChecks, deedChecks, callChecks, refusalOf}
+use Rattle.server_plan.specs.Refusals.{expiry, deedChecks, callChecks, refusalOf}
 use Rattle.server.specs.declared.Reply.{Reply}
-use Rattle.server.specs.declared.tick.Step.the-variants.{Refuse as Stop, Expire, Beat, Quiet}
-use Rattle.server.specs.declared.tick.Step.{Step}
-use Rattle.state.proofs.DueLaws.{due-at, keyed, by-place}
-use Rattle.state.proofs.FormLaws.{GoodServer, good-columns, good-later, good-server, server-good}
-use Rattle.state.proofs.StateLaws.{SizedServer, Columns, keys-long, as-long, rows-after, good-after}
-use Rattle.state.specs.Due.{dueFrom}
-use Rattle.state.specs.IllFormed.{illForms, illFormsOf, WellFormed}
-use Rattle.state.specs.Views.{view, ledgerOf, keysOf, heldOf, entriesOf}
-use Rattle.state.specs.declared.Header.{Header}
-use Rattle.state.specs.declared.Server.{Server}
-use Rattle.state.specs.declared.due.Due.the-variants.{At, Nothing}
-use Rattle.state.specs.declared.due.Due.{Due}
+use Rattle.server_plan.specs.declared.tick.Step.the-variants.{Refuse as Stop, Expire, Beat, Quiet}
+use Rattle.server_plan.specs.declared.tick.Step.{Step}
+use Rattle.server_state.proofs.DueLaws.{due-at, keyed, by-place}
+use Rattle.server_state.proofs.FormLaws.{GoodServer, good-later, good-server, server-good}
+use Rattle.server_state.proofs.StateLaws.{Columns, keys-long, as-long, rows-after, good-after}
+use Rattle.table.proofs.TableLaws.{GoodTable, good-after as table-good}
+use Rattle.server_state.specs.Due.{dueFrom}
+use Rattle.server_state.specs.IllFormed.{illForms, illFormsOf, WellFormed}
+use Rattle.server_state.specs.Views.{view, ledgerOf, keysOf, heldOf, SizedServer}
+use Rattle.server_state.specs.declared.Server.{Server}
+use Rattle.server_state.specs.declared.due.Due.the-variants.{At, Nothing}
+use Rattle.server_state.specs.declared.due.Due.{Due}
 use Rattle.table.proofs.FindLaws.{removed-at, rising-removed-at}
 use Rattle.table.proofs.TextLaws.{text-at, fit-at}
-use Rattle.table.specs.Changes.{countAfter, Fits}
-use Rattle.table.specs.Columns.{texts, rowsOf, lengthsFit}
+use Rattle.table.specs.Changes.{Fits}
+use Rattle.table.specs.Columns.{rowsOf}
 use Rattle.table.specs.declared.change.Change.the-variants.{Remove}
-
--- ---- what there is to do at a tick that is good
-module _ (keys : List Bytes) (t published number room n : ℕ) (es : List ℕ) {found : Due} (is : found ≡ dueFrom 0 t (take n es)) where
-  abbrev step : Step
-  step = stepOf (firstOf (deedChecks number (deedAt t published keys (dueFrom 0 t (take n es))) room)) t published (dueFrom 0 t (take n es))
-
-  module _ {i e : ℕ} (at : found ≡ At i e) where
-    pub due-below : i < n
-    due-below = omega (arith, due-at t (take n es) i e (sym is ∙ at) .below, length-take n es)
-
-    pub exhausted : number ≡ maxSequence → Stop Exhausted ≡ step
-    unfolding firstOf
-    exhausted g = rw (sym is ∙ at, eq-eqb number maxSequence g)
-
-    module _ (g : number ≡ maxSequence → ⊥) {key : Bytes} (own : getD keys i [] ≡ key) {m : ℕ} (m-is : m ≡ min (messageLength (length key) 0 0 0) largest) where
-      long : m ≡ min (length (expiry (suc number) (getD keys i []))) largest
-      long = m-is ∙ rw (own, expiry-length (suc number) key)
-
-      pub too-short : room < m → Stop ShortOutput ≡ step
-      unfolding firstOf
-      too-short h =
-          rw (sym is ∙ at, ne-eqb number maxSequence g, lt-ltb room (length (expiry (suc number) (getD keys i []))) (omega (arith, long)))
-
-      pub goes : room < largest → m ≤ room → Expire i ≡ step
-      unfolding firstOf
-      goes k h =
-          rw (sym is ∙ at, ne-eqb number maxSequence g, le-ltb room (length (expiry (suc number) (getD keys i []))) (omega (arith, long)))
-
-  module _ (at : found ≡ Nothing) where
-    pub is-quiet : t - published < 1000 → Quiet ≡ step
-    unfolding firstOf
-    is-quiet h = rw (sym is ∙ at, lt-leb 1000 (t - published) h, lt-leb 1000 (t - published) h)
-
-    pub no-beat : 1000 ≤ t - published → room < 22 → Stop ShortOutput ≡ step
-    unfolding firstOf
-    no-beat h k = rw (sym is ∙ at, le-leb 1000 (t - published) h, lt-ltb room (length (bytesOf hugz)) (omega (arith, hugz-length)))
-
-    pub beats : 1000 ≤ t - published → 22 ≤ room → Beat ≡ step
-    unfolding firstOf
-    beats h k =
-        rw (sym is ∙ at, le-leb 1000 (t - published) h, le-ltb room (length (bytesOf hugz)) (omega (arith, hugz-length)), le-leb 1000 (t - published) h)
-
--- what is known of columns and a tick that pass
-pub deed-known : (keys : Bytes) (kl vl ns es : List ℕ) (n : ℕ) (h : Header) (t room : ℕ) → room < largest
-    → {v : Verdict} → v ≡ verdict (firstOf (illForms keys kl vl ns es n h)) → v ≡ Accept
-    → {w : Verdict} → w ≡ verdict (firstOf (tickChecks (h .«last_tick» .0) t)) → w ≡ Accept
-    → (n ≤ 64) × ((lengthsFit 96 n kl ≡ true) × ((h .«last_published» .0 ≤ t) × (room < largest)))
-deed-known keys kl vl ns es n h t room k is e tick-is f =
-    let g = good-columns keys kl vl ns es n h (accepted (firstOf (illForms keys kl vl ns es n h)) (sym e ∙ is)) in
-    let p = accepted (firstOf (tickChecks (h .«last_tick» .0) t)) (sym f ∙ tick-is) in
-    let l = ltb-false t (h .«last_tick» .0) (passed 1 (tickChecks (h .«last_tick» .0) t) p) in
-    (g .count, (g .key-lengths, (omega (arith, g .published), k)))
 
 -- ---- from the step back to the refusal and the row that is due
 record Expires (x : Option Refusal) (d : Due) (i : ℕ) : Type 0 where
@@ -178,11 +122,11 @@ module _ (s : Server) (t room : ℕ) (z : SizedServer s) where
   deed-is : GoodServer s → t ≤ maxTick → deed (ledgerOf (view s)) t ≡ deedIn s t
   unfolding deed ledgerOf view
   deed-is g h =
-      let b : s .table .count ≤ length (s .table .«value_lengths») = omega (arith, g .count, z .value-lengths) in
-      let c : s .table .count ≤ length (s .numbers) = omega (arith, g .count, z .numbers) in
-      let d : s .table .count ≤ length (s .expiries) = omega (arith, g .count, z .expiries) in
+      let b : s .table .count ≤ length (s .table .«value_lengths») = omega (arith, g .rows .count, z .table .value-lengths) in
+      let c : s .table .count ≤ length (s .numbers) = omega (arith, g .rows .count, z .numbers) in
+      let d : s .table .count ≤ length (s .expiries) = omega (arith, g .rows .count, z .expiries) in
       ap (deedOf t (s .header .«last_published» .0))
-      (by-place t (s .table .count) (keysOf s) (s .table .values) (s .table .«value_lengths») (s .numbers) (s .expiries) h (keys-long s z (g .count)) b c d)
+      (by-place t (s .table .count) (keysOf s) (s .table .values) (s .table .«value_lengths») (s .numbers) (s .expiries) h (keys-long s z (g .rows .count)) b c d)
       ∙ deed-keyed t (s .header .«last_published» .0) (keysOf s) (dueIn s t)
 
   calls-are : callChecks (ledgerOf (view s)) (tick t room)
@@ -332,10 +276,10 @@ module _ (s : Server) (T : Tick) (out : Bytes) (z : SizedServer s) {step : Step}
     row-fits : Fits (Remove i) (s .table .count)
     row-fits =
         let d = due-at (T .0) (take (s .table .count) (s .expiries)) i (row-known .when-due) (row-known .is-due) in
-        (omega (arith, d .below, length-take (s .table .count) (s .expiries)), row-passes .good .count)
+        (omega (arith, d .below, length-take (s .table .count) (s .expiries)), row-passes .good .rows .count)
 
     row-key : (i < 64) × (getD (s .table .«key_lengths») i 0 ≤ 96)
-    row-key = (omega (arith, row-fits .0, row-fits .1), fit-at 96 (s .table .count) (s .table .«key_lengths») (row-passes .good .key-lengths) i (row-fits .0))
+    row-key = (omega (arith, row-fits .0, row-fits .1), fit-at 96 (s .table .count) (s .table .«key_lengths») (row-passes .good .rows .key-lengths) i (row-fits .0))
 
     row-number : s .header .number .0 < maxSequence
     row-number =
@@ -351,19 +295,10 @@ module _ (s : Server) (T : Tick) (out : Bytes) (z : SizedServer s) {step : Step}
         omega (arith, m)
 
     -- the columns without the row, and what was written
-    module _ (keys′ values′ : Bytes) (kl′ vl′ ns′ es′ : List ℕ) (keyCell valueCell : Bytes) (count′ : ℕ) (number′ : Sequence) (a : Answer) (key : Bytes) (w : ℕ) (after : Bytes)
-        (c : Columns (Remove i) (s .table .count) 0 0 0 0 keyCell valueCell (s .table .keys) (s .table .values) keys′ values′ (s .table .«key_lengths») (s .table .«value_lengths») (s .numbers) (s .expiries) kl′ vl′ ns′ es′)
-        (count-is : count′ ≡ countAfter (Remove i) (s .table .count)) (number-is : number′ ≡ sequence (suc (s .header .number .0)))
+    module _ (r : Reply) (keyCell valueCell : Bytes) {key : Bytes} (number′ : Sequence) (w : ℕ) (after : Bytes) (c : Columns (Remove i) 0 0 0 0 keyCell valueCell s (r .state))
+        (header-is : r .state .header ≡ record { number = number′; «last_tick» = T; «last_published» = T }) (number-is : number′ ≡ sequence (suc (s .header .number .0)))
         (key-is : key ≡ take (getD (s .table .«key_lengths») i 0) (cellAt 96 i (s .table .keys)))
-        (written : Written out 0 (bytesOf (kvpub (number′ .0) key [] [] [])) w after) (told : a ≡ answer (Wrote number′) w) where
-      abbrev state′ : Server
-      state′ = record {
-        table = record { keys = keys′; values = values′; «key_lengths» = kl′; «value_lengths» = vl′; count = count′ };
-        numbers = ns′;
-        expiries = es′;
-        header = record { number = number′; «last_tick» = T; «last_published» = T };
-      }
-
+        (written : Written out 0 (bytesOf (kvpub (number′ .0) key [] [] [])) w after) (told : r .answer ≡ answer (Wrote number′) w) where
       own-key : key ≡ getD (keysOf s) i []
       own-key = key-is ∙ sym (text-at 96 (s .table .count) (s .table .«key_lengths») (s .table .keys) i (row-fits .0))
 
@@ -374,29 +309,31 @@ module _ (s : Server) (T : Tick) (out : Bytes) (z : SizedServer s) {step : Step}
       long-keys : length (keysOf s) ≡ s .table .count
       long-keys = keys-long s z (row-fits .1)
 
-      rows-are : rowsOf (texts 96 count′ kl′ keys′) (entriesOf count′ values′ vl′ ns′ es′) ≡ removeRow (getD (keysOf s) i []) (rowsOf (keysOf s) (heldOf s))
+      rows-are : rowsOf (keysOf (r .state)) (heldOf (r .state)) ≡ removeRow (getD (keysOf s) i []) (rowsOf (keysOf s) (heldOf s))
       rows-are =
-          rw count-is
-          (rows-after (Remove i) (s .table .count) 0 0 0 0 keyCell valueCell (s .table .keys) (s .table .values) keys′ values′ (s .table .«key_lengths») (s .table .«value_lengths») (s .numbers) (s .expiries) kl′ vl′ ns′ es′ row-fits z c)
-          ∙ removed-at (keysOf s) (heldOf s) i (as-long s z (row-fits .1)) (row-passes .good .rise) (omega (arith, long-keys, row-fits .0))
+          rows-after row-fits z c
+          ∙ removed-at (keysOf s) (heldOf s) i (as-long s z (row-fits .1)) (row-passes .good .rows .rise) (omega (arith, long-keys, row-fits .0))
 
-      next-is : view state′ ≡ tickNext (view s) (expire (getD (keysOf s) i [])) (T .0)
+      next-is : view (r .state) ≡ tickNext (view s) (expire (getD (keysOf s) i [])) (T .0)
       unfolding view tickNext
-      next-is = rw (rows-are, number-is)
+      next-is = rw (rows-are, header-is, number-is)
 
-      stays : GoodServer state′
+      never : {A : Type 0} → false ≡ true → A
+      never q = absurd (let y : _≡_ {A = ℕ} 0 1 = cc in omega arith)
+
+      rows-stay : GoodTable (r .state .table)
+      rows-stay =
+          table-good row-fits (z .table) (c .table) (row-passes .good .rows) never never (rising-removed-at (keysOf s) i (row-passes .good .rows .rise) (omega (arith, long-keys, row-fits .0))) never
+
+      number-after : r .state .header .number .0 ≡ suc (s .header .number .0)
+      number-after = rw (header-is, number-is)
+
+      stays : GoodServer (r .state)
       stays =
-          rw (count-is, number-is)
-          (good-after (Remove i) (s .table .count) 0 0 0 0 keyCell valueCell (s .table .keys) (s .table .values) keys′ values′ (s .table .«key_lengths») (s .table .«value_lengths») (s .numbers) (s .expiries) kl′ vl′ ns′ es′ row-fits z c
-          (s .header) (record { number = sequence (suc (s .header .number .0)); «last_tick» = T; «last_published» = T }) (row-passes .good)
-          (λ q. absurd (never q)) (λ q. absurd (never q)) (rising-removed-at (keysOf s) i (row-passes .good .rise) (omega (arith, long-keys, row-fits .0))) (λ q. absurd (never q)) (λ q. absurd (never q)) (λ q. absurd (never q))
-          (omega arith) (omega (arith, row-number)) (omega arith) (row-passes .in-range))
-        where
-          never : false ≡ true → ⊥
-          never q = let y : _≡_ {A = ℕ} 0 1 = cc in omega arith
+          good-after row-fits z c (row-passes .good) rows-stay never never (omega (arith, number-after)) (omega (arith, number-after, row-number)) (rw header-is (omega arith)) (rw header-is (row-passes .in-range))
 
-      pub tick-expired : Answered s (tick (T .0) (length out)) out (record { state = state′; answer = a }) after
+      pub tick-expired : Answered s (tick (T .0) (length out)) out r after
       unfolding tickBytes
       tick-expired =
-          accepted-tick s (T .0) (length out) out after _ (expire (getD (keysOf s) i [])) (row-passes .refusal) (row-passes .deed-is-in ∙ row-deed)
-          (told ∙ rw (number-is, place wrote row-room, zero-add (length (expiry (suc (s .header .number .0)) (getD (keysOf s) i []))))) next-is (output wrote row-room) (server-good state′ stays)
+          accepted-tick s (T .0) (length out) out after r (expire (getD (keysOf s) i [])) (row-passes .refusal) (row-passes .deed-is-in ∙ row-deed)
+          (told ∙ rw (number-is, place wrote row-room, zero-add (length (expiry (suc (s .header .number .0)) (getD (keysOf s) i []))))) next-is (output wrote row-room) (server-good (r .state) stays)

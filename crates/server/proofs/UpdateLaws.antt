@@ -3,17 +3,15 @@
 use Prim.Native.Nat.{ℕ, suc, _+_, _≤_, _<_}
 use native.Mathlib.Nat.{zero-add}
 use native.Mathlib.Omega.{arith}
-use mathlib.Core.Bool.{Bool, true, false, not, cond, _&&_}
+use mathlib.Core.Bool.{Bool, true, false, cond}
 use mathlib.Core.List.{List, _++_}
 use mathlib.Core.Option.{Option, none}
 use mathlib.Core.Path.{_≡_, refl, sym, ap, _∙_}
-use lib.Dec.{leb}
 use lib.ListN.{length, take}
-use borrow.Author.Tests.{leb-true, leb-false, ltb-false, eqb-false, le-leb, not-false}
+use borrow.Author.Tests.{leb-true, ltb-false, eqb-false, not-false}
 use Rattle.answers.specs.Answers.{answer}
 use Rattle.answers.specs.declared.answer.Kind.the-variants.{Wrote}
 use Rattle.answers.specs.declared.refusal.Refusal.{Refusal}
-use Rattle.base.proofs.ByteLaws.{some-bytes}
 use Rattle.base.proofs.CheckLaws.{passed, pass-all, both-passed, testOf}
 use Rattle.base.proofs.OutputLaws.{output, place}
 use Rattle.base.specs.Bytes.{Bytes, isNil}
@@ -24,46 +22,39 @@ use Rattle.messages.specs.Fields.{frameAt, fieldsOf}
 use Rattle.names.proofs.UnderLaws.{key-short as key-most}
 use Rattle.names.specs.Keys.{isKey}
 use Rattle.names.specs.Numbers.{sequence, maxSequence, maxTick}
-use Rattle.ports.proofs.PortLaws.{frame-is}
-use Rattle.ports.specs.Ports.{framed, kvsetChecks, kvsetPort}
+use Rattle.ports.proofs.PortLaws.{port-frame}
+use Rattle.ports.specs.Ports.{framed, kvsetChecks, kvsetPort, tickChecks}
 use Rattle.properties.specs.Properties.{propertiesOf}
 use Rattle.rows.proofs.RowLaws.{map-hasKey, map-length}
 use Rattle.rows.specs.Rows.{hasKey, mapRows, setRow, removeRow}
 use Rattle.server.proofs.AnswerLaws.{accepted-call, refusal-is}
-use Rattle.server.specs.Answers.{acceptedKind}
-use Rattle.server.specs.Calls.{kvset}
-use Rattle.server.specs.Next.{expiryAt, kvsetNext, acceptedNext}
-use Rattle.server.specs.Output.{acceptedBytes}
-use Rattle.server.specs.Plans.{isFound}
+use Rattle.server_plan.specs.Answers.{acceptedKind}
+use Rattle.server_plan.specs.Calls.{kvset}
+use Rattle.server_plan.specs.Next.{expiryAt, kvsetNext, acceptedNext}
+use Rattle.server_plan.specs.Output.{acceptedBytes}
 use Rattle.server.specs.Promises.{Answered}
-use Rattle.server.specs.Refusals.{update, tickChecks, updateChecks, callChecks, refusalOf}
+use Rattle.server_plan.specs.Refusals.{update, updateChecks, callChecks, refusalOf}
 use Rattle.server.specs.Start.{headerAt}
 use Rattle.server.specs.declared.Reply.{Reply}
-use Rattle.state.proofs.FormLaws.{GoodServer, good-server, server-good}
-use Rattle.state.proofs.StateLaws.{SizedServer, Columns, keys-long, as-long, rows-long, rows-after, good-after}
-use Rattle.state.specs.IllFormed.{illFormsOf, isExpiry, WellFormed}
-use Rattle.state.specs.Views.{Entry, entry, stamp, expiryIn, keysOf, heldOf, plain, view, ledgerOf}
-use Rattle.state.specs.declared.Server.{Server}
-use Rattle.table.proofs.ChangeLaws.{stores}
-use Rattle.table.proofs.FindLaws.{has-key, lacks-key, changed-removes, changed-sets, change-fits, rising-changed}
-use Rattle.table.specs.Changes.{changed, countAfter, Fits}
-use Rattle.table.specs.Columns.{rowsOf, within}
-use Rattle.table.specs.Find.{placeOf, changeTo}
+use Rattle.server_state.proofs.FormLaws.{GoodServer, good-server, server-good}
+use Rattle.server_state.proofs.StateLaws.{Columns, keys-long, as-long, rows-long, rows-after, good-after}
+use Rattle.server_state.specs.IllFormed.{illFormsOf, isExpiry, WellFormed}
+use Rattle.server_state.specs.Views.{Entry, entry, stamp, expiryIn, keysOf, heldOf, plain, view, ledgerOf, SizedServer}
+use Rattle.server_state.specs.declared.Server.{Server}
+use Rattle.table.proofs.FindLaws.{held-found, over-is, changed-removes, changed-sets, change-fits}
+use Rattle.table.proofs.TableLaws.{GoodTable, update-good}
+use Rattle.table.specs.Changes.{changed, Fits}
+use Rattle.table.specs.Columns.{rowsOf}
+use Rattle.table.specs.Find.{placeOf, changeTo, isFound}
 use Rattle.table.specs.declared.change.Change.{Change}
-use Rattle.table.specs.declared.find.Found.the-variants.{At, Missing}
-use Rattle.table.specs.declared.find.Found.{Found}
 
 module _ (s : Server) (z : SizedServer s) (g : GoodServer s) where
-  -- a key is held if it is found
   held-is : (k : Bytes) → hasKey k (mapRows plain (rowsOf (keysOf s) (heldOf s))) ≡ isFound (placeOf 0 k (keysOf s))
-  held-is k = map-hasKey plain k (rowsOf (keysOf s) (heldOf s)) ∙ go (placeOf 0 k (keysOf s)) refl
-    where
-      go : (x : Found) → placeOf 0 k (keysOf s) ≡ x → hasKey k (rowsOf (keysOf s) (heldOf s)) ≡ isFound x
-      go (At i) e = has-key k (keysOf s) (heldOf s) (as-long s z (g .count)) i e
-      go (Missing i) e = lacks-key k (keysOf s) (heldOf s) (as-long s z (g .count)) (g .rise) i e
+  held-is k =
+      map-hasKey plain k (rowsOf (keysOf s) (heldOf s)) ∙ held-found k (keysOf s) (heldOf s) (as-long s z (g .rows .count)) (g .rows .rise)
 
   held-count : length (mapRows plain (rowsOf (keysOf s) (heldOf s))) ≡ s .table .count
-  held-count = map-length plain (rowsOf (keysOf s) (heldOf s)) ∙ rows-long s z (g .count)
+  held-count = map-length plain (rowsOf (keysOf s) (heldOf s)) ∙ rows-long s z (g .rows .count)
 
 -- the checks of a KVSET behind that of the state, as they are made over the columns
 abbrev pub kvsetTable : Server → Bytes → ℕ → ℕ → List (Check Refusal)
@@ -112,7 +103,7 @@ module _ (s : Server) (z : SizedServer s) (msg : Bytes) (t room : ℕ) (e : firs
   value-short = leb-true (length (frameAt 4 msg)) 256 (not-false _ (test 6))
 
   pub frames-are : (k : ℕ) → k < 5 → bodyAt k msg ≡ frameAt k msg
-  frames-are k h = frame-is 5 msg (rw (both-passed (framed 5 msg) (kvsetChecks (fieldsOf msg) ++ behind) whole .0)) k h
+  frames-are k h = port-frame 5 msg (kvsetChecks (fieldsOf msg) ++ behind) whole k h
     where
       behind : List (Check Refusal)
       behind = tickChecks (s .header .«last_tick» .0) t ++ updateChecks (isFound (placeOf 0 (frameAt 0 msg) (keysOf s))) (s .table .count) (s .header .number .0) (fieldsOf msg) room
@@ -131,15 +122,8 @@ module _ (s : Server) (z : SizedServer s) (msg : Bytes) (t room : ℕ) (e : firs
 
   pub change-is-fit : Fits (changeTo (isNil (frameAt 4 msg)) (placeOf 0 (frameAt 0 msg) (keysOf s))) (s .table .count)
   change-is-fit =
-      change-fits (frameAt 0 msg) (keysOf s) (heldOf s) (as-long s z (good .count)) (s .table .count) (keys-long s z (good .count)) (isNil (frameAt 4 msg)) (good .rise) (good .count) below
-    where
-      few : (nil found : Bool) → (not nil && (not found && leb 64 (s .table .count))) ≡ false → nil ≡ false → found ≡ false → s .table .count < 64
-      few true found h p q = absurd (let z : _≡_ {A = ℕ} 0 1 = cc in omega arith)
-      few false true h p q = absurd (let z : _≡_ {A = ℕ} 0 1 = cc in omega arith)
-      few false false h p q = leb-false 64 (s .table .count) h
-
-      below : isNil (frameAt 4 msg) ≡ false → hasKey (frameAt 0 msg) (rowsOf (keysOf s) (heldOf s)) ≡ false → s .table .count < 64
-      below p q = few (isNil (frameAt 4 msg)) (isFound (placeOf 0 (frameAt 0 msg) (keysOf s))) (test 9) p (sym (held-is s z good (frameAt 0 msg)) ∙ map-hasKey plain (frameAt 0 msg) (rowsOf (keysOf s) (heldOf s)) ∙ q)
+      change-fits (frameAt 0 msg) (keysOf s) (heldOf s) (as-long s z (good .rows .count)) (s .table .count) (keys-long s z (good .rows .count)) (isNil (frameAt 4 msg)) (good .rows .count)
+      (over-is (isNil (frameAt 4 msg)) (placeOf 0 (frameAt 0 msg) (keysOf s)) (s .table .count) ∙ test 9)
 
   abbrev change : Change
   change = changeTo (isNil (frameAt 4 msg)) (placeOf 0 (frameAt 0 msg) (keysOf s))
@@ -150,16 +134,12 @@ module _ (s : Server) (z : SizedServer s) (msg : Bytes) (t room : ℕ) (e : firs
   -- what the change makes of the rows
   updated : (nil : Bool) → changed (changeTo nil (placeOf 0 (frameAt 0 msg) (keysOf s))) (frameAt 0 msg, new) (rowsOf (keysOf s) (heldOf s))
       ≡ cond nil (removeRow (frameAt 0 msg) (rowsOf (keysOf s) (heldOf s))) (setRow (frameAt 0 msg) new (rowsOf (keysOf s) (heldOf s)))
-  updated true = changed-removes (frameAt 0 msg) (keysOf s) (heldOf s) (as-long s z (good .count)) new
-  updated false = changed-sets (frameAt 0 msg) (keysOf s) (heldOf s) (as-long s z (good .count)) new
+  updated true = changed-removes (frameAt 0 msg) (keysOf s) (heldOf s) (as-long s z (good .rows .count)) new
+  updated false = changed-sets (frameAt 0 msg) (keysOf s) (heldOf s) (as-long s z (good .rows .count)) new
 
   -- the columns after the change: the cells of the fresh row, its lengths, the new number and the expiry
   module _ (made : Change) (made-is : made ≡ changeTo (isNil (frameAt 4 msg)) (placeOf 0 (frameAt 0 msg) (keysOf s))) {k v expiry written : ℕ} {keyCell valueCell out after : Bytes} (r : Reply)
-      (columns : Columns made (s .table .count) k v (suc (s .header .number .0)) expiry keyCell valueCell
-      (s .table .keys) (s .table .values) (r .state .table .keys) (r .state .table .values)
-      (s .table .«key_lengths») (s .table .«value_lengths») (s .numbers) (s .expiries)
-      (r .state .table .«key_lengths») (r .state .table .«value_lengths») (r .state .numbers) (r .state .expiries))
-      (count-is : r .state .table .count ≡ countAfter made (s .table .count))
+      (columns : Columns made k v (suc (s .header .number .0)) expiry keyCell valueCell s (r .state))
       (header-is : r .state .header ≡ headerAt (suc (s .header .number .0)) t)
       (key-is : take k keyCell ≡ frameAt 0 msg) (k-is : k ≡ length (frameAt 0 msg)) (value-is : take v valueCell ≡ frameAt 4 msg) (v-is : v ≡ length (frameAt 4 msg))
       (expiry-is : expiryIn expiry ≡ expiryAt t (propertiesOf (frameAt 3 msg))) (lasts : isExpiry expiry ≡ true)
@@ -175,39 +155,22 @@ module _ (s : Server) (z : SizedServer s) (msg : Bytes) (t room : ℕ) (e : firs
 
     rows-are : rowsOf (keysOf (r .state)) (heldOf (r .state))
         ≡ cond (isNil (frameAt 4 msg)) (removeRow (frameAt 0 msg) (rowsOf (keysOf s) (heldOf s))) (setRow (frameAt 0 msg) new (rowsOf (keysOf s) (heldOf s)))
-    rows-are =
-        rw count-is
-        (rows-after made (s .table .count) k v (suc (s .header .number .0)) expiry keyCell valueCell (s .table .keys) (s .table .values) (r .state .table .keys) (r .state .table .values)
-        (s .table .«key_lengths») (s .table .«value_lengths») (s .numbers) (s .expiries) (r .state .table .«key_lengths») (r .state .table .«value_lengths») (r .state .numbers) (r .state .expiries) fit z columns
-        ∙ rw (key-is, entry-is, made-is) (updated (isNil (frameAt 4 msg))))
+    rows-are = rows-after fit z columns ∙ rw (key-is, entry-is, made-is) (updated (isNil (frameAt 4 msg)))
 
     view-is : view (r .state) ≡ kvsetNext (view s) (fieldsOf msg) t
     unfolding view kvsetNext
     view-is = rw (header-is, rows-are)
 
-    stored : stores made ≡ true → isNil (frameAt 4 msg) ≡ false
-    stored h = go (isNil (frameAt 4 msg)) (placeOf 0 (frameAt 0 msg) (keysOf s)) (rw made-is at h)
-      where
-        go : (nil : Bool) (x : Found) → stores (changeTo nil x) ≡ true → nil ≡ false
-        go true (At i) h = sym h
-        go true (Missing i) h = sym h
-        go false (At i) h = refl
-        go false (Missing i) h = refl
+    rows-good : GoodTable (r .state .table)
+    rows-good =
+        update-good fit (z .table) (columns .table) (isNil (frameAt 4 msg)) (frameAt 0 msg) (frameAt 4 msg) made-is key-is k-is v-is (good .rows) key-good (λ e. e) value-short
 
-    value-fits : stores made ≡ true → within 1 256 v ≡ true
-    value-fits h =
-        let a : 1 ≤ v = rw v-is (some-bytes (frameAt 4 msg) (stored h)) in
-        let b : v ≤ 256 = rw v-is value-short in
-        rw (le-leb 1 v a, le-leb v 256 b)
+    number-is : r .state .header .number .0 ≡ suc (s .header .number .0)
+    number-is = rw header-is
 
     good-is : GoodServer (r .state)
     good-is =
-        rw (count-is, header-is)
-        (good-after made (s .table .count) k v (suc (s .header .number .0)) expiry keyCell valueCell (s .table .keys) (s .table .values) (r .state .table .keys) (r .state .table .values)
-        (s .table .«key_lengths») (s .table .«value_lengths») (s .numbers) (s .expiries) (r .state .table .«key_lengths») (r .state .table .«value_lengths») (r .state .numbers) (r .state .expiries) fit z columns
-        (s .header) (headerAt (suc (s .header .number .0)) t) good
-        (λ h. omega (arith, k-is, key-short)) (λ h. rw key-is key-good) (rw (key-is, made-is) (rising-changed (frameAt 0 msg) (keysOf s) (good .rise) (isNil (frameAt 4 msg)))) value-fits
-        (λ h. omega arith) (λ h. lasts) (omega arith) (omega (arith, number-left)) (omega arith) in-time)
+        good-after fit z columns good rows-good (λ h. omega (arith, number-is)) (λ h. lasts) (omega (arith, number-is)) (omega (arith, number-is, number-left)) (rw header-is (omega arith)) (rw header-is in-time)
 
     pub kvset-done : Answered s (kvset msg t room) out r after
     kvset-done =

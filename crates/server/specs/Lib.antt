@@ -1,11 +1,4 @@
-pub mod Answers
-pub mod Calls
-pub mod Deeds
-pub mod Next
-pub mod Output
-pub mod Plans
 pub mod Promises
-pub mod Refusals
 pub mod Repeats
 pub mod Runs
 pub mod Start

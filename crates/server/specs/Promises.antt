@@ -5,16 +5,16 @@ use mathlib.Core.Path.{_≡_}
 use Rattle.answers.specs.declared.refusal.Refusal.{Refusal}
 use Rattle.base.specs.Bytes.{Bytes}
 use Rattle.base.specs.Output.{put}
-use Rattle.server.specs.Answers.{answerFor}
-use Rattle.server.specs.Calls.{Call}
-use Rattle.server.specs.Next.{nextOf}
-use Rattle.server.specs.Output.{bytesFor}
-use Rattle.server.specs.Refusals.{refusalOf}
+use Rattle.server_plan.specs.Answers.{answerFor}
+use Rattle.server_plan.specs.Calls.{Call}
+use Rattle.server_plan.specs.Next.{nextOf}
+use Rattle.server_plan.specs.Output.{bytesFor}
+use Rattle.server_plan.specs.Refusals.{refusalOf}
 use Rattle.server.specs.Start.{startOf, startAnswer}
 use Rattle.server.specs.declared.Reply.{Reply}
-use Rattle.state.specs.IllFormed.{WellFormed}
-use Rattle.state.specs.Views.{view}
-use Rattle.state.specs.declared.Server.{Server}
+use Rattle.server_state.specs.IllFormed.{WellFormed}
+use Rattle.server_state.specs.Views.{view}
+use Rattle.server_state.specs.declared.Server.{Server}
 
 -- the call x on the state s with the output `out`, which is then `after`, gives the reply r
 pub record Answered (s : Server) (x : Call) (out : Bytes) (r : Reply) (after : Bytes) : Type 0 where

@@ -2,19 +2,20 @@
 use Prim.Native.Nat.{ℕ, zero, suc, _≤_}
 use mathlib.Core.Option.{none, some}
 use mathlib.Core.Path.{_≡_}
+use Rattle.answers.specs.Refusals.{ifAccepted}
 use Rattle.answers.specs.Answers.{answer}
 use Rattle.answers.specs.declared.answer.Kind.the-variants.{Refused, Nothing}
 use Rattle.answers.specs.declared.refusal.Refusal.the-variants.{Exhausted}
 use Rattle.base.specs.Bytes.{Bytes}
 use Rattle.base.specs.Checks.{firstOf}
-use Rattle.server.specs.Calls.{tick, ifAccepted}
-use Rattle.server.specs.Deeds.{quiet, deed}
-use Rattle.server.specs.Next.{acceptedNext}
+use Rattle.server_plan.specs.Calls.{tick}
+use Rattle.server_plan.specs.Deeds.{quiet, deed}
+use Rattle.server_plan.specs.Next.{acceptedNext}
 use Rattle.server.specs.Promises.{Answered}
-use Rattle.server.specs.Refusals.{callChecks}
+use Rattle.server_plan.specs.Refusals.{callChecks}
 use Rattle.server.specs.declared.Reply.{Reply}
-use Rattle.state.specs.Views.{Entry, Ledger, ledgerOf}
-use Rattle.state.specs.declared.Server.{Server}
+use Rattle.server_state.specs.Views.{Entry, Ledger, ledgerOf}
+use Rattle.server_state.specs.declared.Server.{Server}
 
 -- what a Tick at tick t with `room` bytes of output makes of a ledger
 unfoldable pub tickStep : ℕ → ℕ → Ledger Entry → Ledger Entry

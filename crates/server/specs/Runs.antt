@@ -1,10 +1,10 @@
 -- The states that a server comes to: by a start, and by calls from there on.
 use Prim.Native.Nat.{ℕ}
 use Rattle.base.specs.Bytes.{Bytes}
-use Rattle.server.specs.Calls.{Call}
+use Rattle.server_plan.specs.Calls.{Call}
 use Rattle.server.specs.Promises.{Answered, Began}
 use Rattle.server.specs.declared.Reply.{Reply}
-use Rattle.state.specs.declared.Server.{Server}
+use Rattle.server_state.specs.declared.Server.{Server}
 
 pub data Reached : Server → Type 0 where
   began : (n t : ℕ) (r : Reply) → Began n t r → Reached (r .state)

@@ -4,6 +4,7 @@ use mathlib.Core.Bool.{not}
 use mathlib.Core.List.{List, [], _∷_}
 use mathlib.Core.Option.{Option, none, some}
 use lib.Dec.{leb}
+use Rattle.answers.specs.Refusals.{ifAccepted}
 use Rattle.answers.specs.Answers.{answer}
 use Rattle.answers.specs.declared.answer.Answer.{Answer}
 use Rattle.answers.specs.declared.answer.Kind.the-variants.{Refused, Started}
@@ -12,9 +13,8 @@ use Rattle.answers.specs.declared.refusal.Refusal.{Refusal}
 use Rattle.base.specs.Checks.Check.{when}
 use Rattle.base.specs.Checks.{Check, firstOf}
 use Rattle.names.specs.Numbers.{sequence, maxSequence, maxTick}
-use Rattle.server.specs.Calls.{ifAccepted}
-use Rattle.state.specs.Views.{Entry, Ledger}
-use Rattle.state.specs.declared.Header.{Header}
+use Rattle.server_state.specs.Views.{Entry, Ledger}
+use Rattle.server_state.specs.declared.Header.{Header}
 
 abbrev pub startChecks : ℕ → ℕ → List (Check Refusal)
 startChecks n t =

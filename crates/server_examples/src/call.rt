@@ -1,6 +1,5 @@
 // The calls of a server. Each prints a line with its answer.
-use crate::print;
-use crate::text;
+use base::bytes;
 use frames::read;
 use messages::HEAD;
 use messages::VALUE;
@@ -13,7 +12,7 @@ use server::icanhaz;
 use server::kvset;
 use server::start;
 use server::tick;
-use state::Server;
+use server_state::Server;
 
 // A server at a number and a tick.
 pub(crate) fn begin(number: u64, at: u64) -> Server {
@@ -52,7 +51,7 @@ pub(crate) fn set(
 ) -> Reply {
     let mut msg = [0; 1024];
     let n = write::write_kvset(&mut msg, 0, key, b"", properties, value);
-    set_by(s, at, text::front(&msg, n), out)
+    set_by(s, at, bytes::front(&msg, n), out)
 }
 
 // A KVSET whose publication is not looked at.
@@ -69,7 +68,7 @@ pub(crate) fn tell(s: Server, at: u64) -> Server {
     let r = tick::tick(s, Tick(at), &mut out);
     let a = r.answer;
     print::answer(a);
-    published(text::front(&out, a.written));
+    published(bytes::front(&out, a.written));
     r.state
 }
 
@@ -94,7 +93,7 @@ pub(crate) fn ask(s: Server, name: &[u8], subtree: &[u8], out: &mut [u8]) -> Rep
     let n = request(&mut msg, name, subtree);
     print::text(b"ICANHAZ ");
     print::text(subtree);
-    let r = icanhaz::icanhaz(s, text::front(&msg, n), out);
+    let r = icanhaz::icanhaz(s, bytes::front(&msg, n), out);
     print::answer(r.answer);
     r
 }

@@ -1,7 +1,6 @@
 // Rows that expire: the one of least expiry first, and of those the one of least key.
 use crate::call;
-use crate::print;
-use state::Server;
+use server_state::Server;
 
 pub(crate) fn run() {
     print::heading(b"Rows that expire");

@@ -1,10 +1,10 @@
 // A table of 64 rows, whose keys differ in their last byte.
-use crate::text;
+use base::bytes;
 use base::output;
 use messages::write;
 use names::numbers::Tick;
 use server::kvset;
-use state::Server;
+use server_state::Server;
 
 // A key: some bytes, and one more behind them. It gives the length.
 pub(crate) fn key(out: &mut [u8], front: &[u8], last: u8) -> usize {
@@ -17,7 +17,7 @@ pub(crate) fn key(out: &mut [u8], front: &[u8], last: u8) -> usize {
 fn message(out: &mut [u8], front: &[u8], last: u8, value: &[u8]) -> usize {
     let mut name = [0; 96];
     let n = key(&mut name, front, last);
-    write::write_kvset(out, 0, text::front(&name, n), b"", b"", value)
+    write::write_kvset(out, 0, bytes::front(&name, n), b"", b"", value)
 }
 
 // Sets a row at tick 0, and prints nothing.
@@ -25,7 +25,7 @@ fn add(s: Server, front: &[u8], last: u8, value: &[u8]) -> Server {
     let mut msg = [0; 512];
     let mut out = [0; 512];
     let n = message(&mut msg, front, last, value);
-    let r = kvset::kvset(s, text::front(&msg, n), Tick(0), &mut out);
+    let r = kvset::kvset(s, bytes::front(&msg, n), Tick(0), &mut out);
     r.state
 }
 

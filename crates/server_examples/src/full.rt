@@ -1,8 +1,7 @@
 // A full table: a held key can be set, and a new one only where a row is gone.
 use crate::call;
 use crate::fill;
-use crate::print;
-use state::Server;
+use server_state::Server;
 
 pub(crate) fn run() {
     print::heading(b"A full table");

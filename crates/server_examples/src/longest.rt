@@ -1,14 +1,14 @@
 // The longest snapshot: 64 rows with keys of 96 bytes and values of 256, for a client with an identity of 255 bytes.
 use crate::call;
 use crate::fill;
-use crate::print;
-use crate::text;
+use crate::uniform;
+use base::bytes;
 use base::octets;
 use messages::identity;
 use messages::write;
 use names::numbers::Sequence;
 use server::Reply;
-use state::Server;
+use server_state::Server;
 
 // The subtree of 95 bytes that the keys are under.
 fn subtree() -> [u8; 95] {
@@ -41,7 +41,7 @@ fn fits(s: Server) -> Server {
     let mut out = [9; 40953];
     let r = ask(s, &mut out);
     let a = r.answer;
-    check(text::front(&out, a.written));
+    check(bytes::front(&out, a.written));
     r.state
 }
 
@@ -49,7 +49,7 @@ fn fits(s: Server) -> Server {
 fn short(s: Server) {
     let mut out = [9; 40952];
     ask(s, &mut out);
-    print::expected(b"the output stays", text::is_all(&out, 9));
+    print::expected(b"the output stays", uniform::is_all(&out, 9));
 }
 
 // Holds a snapshot against its messages, written one by one: the rows, and KTHXBAI behind the identity.
@@ -80,5 +80,5 @@ fn row(want: &mut [u8], at: usize, name: &[u8], last: u8) -> usize {
     let n = fill::key(&mut key, &subtree(), last);
     let next = identity::write_identity(want, at, name);
     let number = Sequence(octets::wide(last % 64) + 1);
-    write::write_kvsync(want, next, number, text::front(&key, n), &value)
+    write::write_kvsync(want, next, number, bytes::front(&key, n), &value)
 }

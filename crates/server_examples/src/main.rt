@@ -6,9 +6,8 @@ mod expiry;
 mod fill;
 mod full;
 mod longest;
-mod print;
 mod refusals;
-mod text;
+mod uniform;
 
 fn main() {
     exchange::run();

@@ -1,14 +1,14 @@
 // Refusals, after which the state is as before, and what is just not refused.
 use crate::call;
-use crate::print;
-use crate::text;
+use crate::uniform;
+use base::bytes;
 use messages::write;
 use names::numbers::MAX_SEQUENCE;
 use names::numbers::MAX_TICK;
 use names::numbers::Sequence;
 use names::numbers::Tick;
-use state::Header;
-use state::Server;
+use server_state::Header;
+use server_state::Server;
 
 pub(crate) fn run() {
     print::heading(b"Refusals");
@@ -74,7 +74,7 @@ fn framing(s: Server) -> Server {
 fn short(s: Server) -> Server {
     let mut out = [9; 32];
     let r = call::set(s, 0, b"/clip/7/undo", b"", b"cut", &mut out);
-    print::expected(b"the output stays", text::is_all(&out, 9));
+    print::expected(b"the output stays", uniform::is_all(&out, 9));
     r.state
 }
 
@@ -83,7 +83,7 @@ fn any_sequence(s: Server) {
     let mut msg = [0; 128];
     let mut out = [0; 128];
     let n = largest_sequence(&mut msg);
-    call::set_by(s, 0, text::front(&msg, n), &mut out);
+    call::set_by(s, 0, bytes::front(&msg, n), &mut out);
 }
 
 fn largest_sequence(msg: &mut [u8]) -> usize {

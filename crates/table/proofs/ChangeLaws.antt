@@ -109,6 +109,13 @@ stores (Remove i) = false
 stores (Replace i) = true
 stores (Insert i) = true
 
+-- what passes one test passes a weaker one
+pub every-weaker : {A : Type 0} (p q : A → Bool) → ((a : A) → p a ≡ true → q a ≡ true) → (l : List A) → every p l ≡ true → every q l ≡ true
+unfolding every
+every-weaker p q h [] e = refl
+every-weaker p q h (a ∷ l) e =
+    rw (h a (and-left (p a) (every p l) e), every-weaker p q h l (and-right (p a) (every p l) e))
+
 module _ {A : Type 0} (test : A → Bool) where
   every-cons : (x : A) (l : List A) → test x ≡ true → every test l ≡ true → every test (x ∷ l) ≡ true
   unfolding every

@@ -3,11 +3,14 @@
 use Prim.Native.Nat.{ℕ, zero, suc, _+_, _-_, _≤_, _<_}
 use native.Mathlib.Nat.{le-of-suc-le-suc, not-suc-le-zero, add-zero, zero-add}
 use native.Mathlib.Omega.{arith}
-use mathlib.Core.Bool.{Bool, true, false}
+use mathlib.Core.Bool.{Bool, true, false, not, _&&_}
 use mathlib.Core.List.{List, [], _∷_, zipWith, map}
+use mathlib.Core.Option.{Option, none, some}
 use mathlib.Core.Path.{_≡_, refl, sym, ap, _∙_, subst}
+use lib.Dec.{leb}
 use lib.ListN.{length, getD, take, drop, set, length-take, length-drop, drop-of-length-le}
 use lib.Seq.{getD-take, getD-drop, drop-drop, take-take}
+use borrow.Author.Tests.{leb-false}
 use Rattle.base.proofs.ByteLaws.{and-left, and-right}
 use Rattle.base.specs.Bytes.{Bytes}
 use Rattle.cells.proofs.CellLaws.{drop-take}
@@ -17,11 +20,12 @@ use Rattle.names.proofs.OrderLaws.{order-self, order-flip, order-equal, order-t
 use Rattle.names.specs.Order.{orderOf}
 use Rattle.names.specs.declared.order.Order.the-variants.{Less, Equal, Greater}
 use Rattle.names.specs.declared.order.Order.{Order}
-use Rattle.rows.proofs.RowLaws.{same-by-order, sorted-set, sorted-remove, sorted-rising, rising-sorted, above-hasKey, above-trans}
-use Rattle.rows.specs.Rows.{Rows, mapRows, setRow, removeRow, hasKey, keysIn, Sorted, Above, rising, isLess}
-use Rattle.table.specs.Changes.{changed, Fits}
+use Rattle.rows.proofs.RowLaws.{same-by-order, isSome, held-has, sorted-set, sorted-remove, sorted-rising, rising-sorted, above-hasKey, above-trans}
+use Rattle.rows.specs.Rows.{Rows, mapRows, setRow, removeRow, hasKey, heldUnder, keysIn, Sorted, Above, rising, isLess}
+use Rattle.table.proofs.ChangeLaws.{stores}
+use Rattle.table.specs.Changes.{changed, Fits, isOver}
 use Rattle.table.specs.Columns.{rowsOf}
-use Rattle.table.specs.Find.{placeOf, byOrder, changeTo}
+use Rattle.table.specs.Find.{placeOf, byOrder, isFound, changeTo}
 use Rattle.table.specs.declared.change.Change.the-variants.{Leave, Remove, Replace, Insert}
 use Rattle.table.specs.declared.change.Change.{Change}
 use Rattle.table.specs.declared.find.Found.the-variants.{At, Missing}
@@ -209,6 +213,20 @@ module _ {A : Type 0} (k : Bytes) where
       let f : length keys ≡ length held = omega arith in
       place-step n x b keys held (orderOf x k) refl (order-flip x k) (place (suc n) keys held f)
 
+module _ {A : Type 0} (k : Bytes) (d : A) where
+  -- the row at the place of its own key
+  held-place : (keys : List Bytes) (held : List A) (i : ℕ) → length keys ≡ length held → Rising keys → i < length keys → getD keys i [] ≡ k
+      → heldUnder k (rowsOf keys held) ≡ some (getD held i d)
+  unfolding heldUnder rowsOf zipWith
+  held-place [] held i e r h own = absurd (not-suc-le-zero h)
+  held-place (x ∷ keys) [] i e r h own = absurd (omega arith)
+  held-place (x ∷ keys) (b ∷ held) zero e r h own = rw (same-by-order k x (ap (orderOf k) own ∙ order-self k))
+  held-place (x ∷ keys) (b ∷ held) (suc i) e r h own =
+      let f : length keys ≡ length held = omega arith in
+      let l : i < length keys = le-of-suc-le-suc h in
+      let below : orderOf x k ≡ Less = subst (λ (y : Bytes). orderOf x y ≡ Less) own (all-at (λ (y : Bytes). orderOf x y ≡ Less) keys i [] (r .0) l) in
+      rw (same-by-order k x (order-flip x k ∙ ap flipped below)) (held-place keys held i f (r .1) l own)
+
 module _ {A : Type 0} (k : Bytes) (keys : List Bytes) (held : List A) (same-length : length keys ≡ length held) where
   pub there-at : (i : ℕ) → placeOf 0 k keys ≡ At i → There k keys held i
   there-at i p = go (place k 0 keys held same-length)
@@ -244,6 +262,25 @@ module _ {A : Type 0} (k : Bytes) (keys : List Bytes) (held : List A) (same-leng
   pub lacks-key : rising keys ≡ true → (i : ℕ) → placeOf 0 k keys ≡ Missing i → hasKey k (rowsOf keys held) ≡ false
   lacks-key r i e = gap-at i e .lacks (is-rising keys r)
 
+  -- what is held under a key: that of the row where it is found
+  pub held-at : rising keys ≡ true → (i : ℕ) → placeOf 0 k keys ≡ At i → (d : A) → heldUnder k (rowsOf keys held) ≡ some (getD held i d)
+  held-at r i e d = held-place k d keys held i same-length (is-rising keys r) (there-at i e .bound) (there-at i e .own)
+
+  pub held-missing : rising keys ≡ true → (i : ℕ) → placeOf 0 k keys ≡ Missing i → heldUnder k (rowsOf keys held) ≡ none
+  held-missing r i e = go (heldUnder k (rowsOf keys held)) (sym (held-has k (rowsOf keys held)) ∙ lacks-key r i e)
+    where
+      go : (x : Option A) → isSome x ≡ false → x ≡ none
+      go none f = refl
+      go (some a) f = absurd (let z : _≡_ {A = ℕ} 0 1 = cc in omega arith)
+
+  -- a key is held if it is found
+  pub held-found : rising keys ≡ true → hasKey k (rowsOf keys held) ≡ isFound (placeOf 0 k keys)
+  held-found r = go (placeOf 0 k keys) refl
+    where
+      go : (f : Found) → placeOf 0 k keys ≡ f → hasKey k (rowsOf keys held) ≡ isFound f
+      go (At i) e = has-key i e
+      go (Missing i) e = lacks-key r i e
+
   module _ (n : ℕ) (rows : length keys ≡ n) where
     pub found-fits : (i : ℕ) → placeOf 0 k keys ≡ At i → i < n
     found-fits i e = omega (arith, there-at i e .bound)
@@ -252,14 +289,28 @@ module _ {A : Type 0} (k : Bytes) (keys : List Bytes) (held : List A) (same-leng
     missing-fits i e = omega (arith, gap-at i e .bound)
 
     -- the change is one that the rows allow, where there is room for the row if it is new
-    pub change-fits : (removes : Bool) → rising keys ≡ true → n ≤ 64 → (removes ≡ false → hasKey k (rowsOf keys held) ≡ false → n < 64) → Fits (changeTo removes (placeOf 0 k keys)) n
-    change-fits removes r h room = go removes refl (placeOf 0 k keys) refl
+    -- a change that does not add a row to 64 is one that the rows allow
+    pub change-fits : (removes : Bool) → n ≤ 64 → isOver (changeTo removes (placeOf 0 k keys)) n ≡ false → Fits (changeTo removes (placeOf 0 k keys)) n
+    change-fits removes h over = go removes (placeOf 0 k keys) refl over
       where
-        go : (b : Bool) → removes ≡ b → (f : Found) → placeOf 0 k keys ≡ f → Fits (changeTo b f) n
-        go true p (At i) e = (found-fits i e, h)
-        go true p (Missing i) e = h
-        go false p (At i) e = (found-fits i e, h)
-        go false p (Missing i) e = (missing-fits i e, room p (lacks-key r i e))
+        go : (b : Bool) (f : Found) → placeOf 0 k keys ≡ f → isOver (changeTo b f) n ≡ false → Fits (changeTo b f) n
+        go true (At i) e o = (found-fits i e, h)
+        go true (Missing i) e o = h
+        go false (At i) e o = (found-fits i e, h)
+        go false (Missing i) e o = (missing-fits i e, leb-false 64 n o)
+
+-- what a change to a key adds, and what it stores
+pub over-is : (removes : Bool) (f : Found) (n : ℕ) → isOver (changeTo removes f) n ≡ (not removes && (not (isFound f) && leb 64 n))
+over-is true (At i) n = refl
+over-is true (Missing i) n = refl
+over-is false (At i) n = refl
+over-is false (Missing i) n = refl
+
+pub stores-some : (removes : Bool) (f : Found) → stores (changeTo removes f) ≡ true → removes ≡ false
+stores-some true (At i) h = sym h
+stores-some true (Missing i) h = sym h
+stores-some false (At i) h = refl
+stores-some false (Missing i) h = refl
 
 -- a row taken out by its place
 pub removed-at : {A : Type 0} (keys : List Bytes) (held : List A) (i : ℕ) → length keys ≡ length held → rising keys ≡ true → i < length keys

@@ -27,6 +27,13 @@ every-at test [] i d e g = g
 every-at test (x ∷ l) zero d e g = and-left (test x) (every test l) e
 every-at test (x ∷ l) (suc i) d e g = every-at test l i d (and-right (test x) (every test l) e) g
 
+-- or within the list alone
+pub every-in : {A : Type 0} (test : A → Bool) (l : List A) (i : ℕ) (d : A) → every test l ≡ true → i < length l → test (getD l i d) ≡ true
+unfolding every
+every-in test [] i d e h = absurd (not-suc-le-zero h)
+every-in test (x ∷ l) zero d e h = and-left (test x) (every test l) e
+every-in test (x ∷ l) (suc i) d e h = every-in test l i d (and-right (test x) (every test l) e) (le-of-suc-le-suc h)
+
 part-at : (lens : List ℕ) (parts : List Bytes) (i : ℕ) → i < length parts → getD (zipWith take lens parts) i [] ≡ take (getD lens i 0) (getD parts i [])
 unfolding zipWith
 part-at [] parts i h = refl

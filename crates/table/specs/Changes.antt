@@ -1,6 +1,8 @@
 -- Changes of one row, as they are made in every column.
 use Prim.Native.Nat.{ℕ, _+_, _-_, _≤_, _<_}
+use mathlib.Core.Bool.{Bool, false}
 use mathlib.Core.List.{List}
+use lib.Dec.{leb}
 use lib.ListN.{set}
 use Rattle.cells.specs.Cells.{insertAt, removeAt}
 use Rattle.table.specs.declared.change.Change.the-variants.{Leave, Remove, Replace, Insert}
@@ -25,3 +27,10 @@ Fits Leave n = n ≤ 64
 Fits (Remove i) n = (i < n) × (n ≤ 64)
 Fits (Replace i) n = (i < n) × (n ≤ 64)
 Fits (Insert i) n = (i ≤ n) × (n < 64)
+
+-- whether a change would add a row to 64
+abbrev pub isOver : Change → ℕ → Bool
+isOver Leave n = false
+isOver (Remove i) n = false
+isOver (Replace i) n = false
+isOver (Insert i) n = leb 64 n

@@ -2,11 +2,13 @@
 use Prim.Native.Nat.{ℕ}
 use mathlib.Core.Bool.{Bool, _&&_}
 use mathlib.Core.List.{List, zipWith}
+use mathlib.Core.Path.{_≡_}
 use lib.Dec.{leb}
-use lib.ListN.{take}
+use lib.ListN.{length, take}
 use Rattle.base.specs.Bytes.{Bytes, every}
 use Rattle.cells.specs.Cells.{cells}
 use Rattle.rows.specs.Rows.{Rows}
+use Rattle.table.specs.declared.Table.{Table}
 
 -- the first n texts of a column: cells of s bytes, of which as many count as their length says
 unfoldable pub texts : ℕ → ℕ → List ℕ → Bytes → List Bytes
@@ -18,6 +20,19 @@ row k a = (k, a)
 
 unfoldable pub rowsOf : {A : Type 0} → List Bytes → List A → Rows A
 rowsOf keys held = zipWith row keys held
+
+-- the keys of a table's rows, and their values
+abbrev pub tableKeys : Table → List Bytes
+tableKeys t = texts 96 (t .count) (t .«key_lengths») (t .keys)
+
+abbrev pub tableValues : Table → List Bytes
+tableValues t = texts 256 (t .count) (t .«value_lengths») (t .values)
+
+-- how long the columns are, as in every table
+pub record SizedTable (t : Table) : Type 0 where
+  pub values : length (t .values) ≡ 16384
+  pub key-lengths : length (t .«key_lengths») ≡ 64
+  pub value-lengths : length (t .«value_lengths») ≡ 64
 
 -- whether a number lies between two others, or is one of them
 abbrev pub within : ℕ → ℕ → ℕ → Bool

@@ -21,6 +21,11 @@ unfoldable pub placeOf : ℕ → Bytes → List Bytes → Found
 placeOf i k [] = Missing i
 placeOf i k (x ∷ xs) = byOrder (orderOf x k) (placeOf (suc i) k xs) (At i) (Missing i)
 
+-- whether a key was found
+abbrev pub isFound : Found → Bool
+isFound (At i) = true
+isFound (Missing i) = false
+
 -- the change that removes a key's row, or that sets it
 abbrev pub changeTo : Bool → Found → Change
 changeTo true (At i) = Remove i

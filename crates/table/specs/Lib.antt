@@ -1,3 +1,4 @@
 pub mod Changes
 pub mod Columns
+pub mod Faults
 pub mod Find

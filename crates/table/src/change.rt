@@ -1,11 +1,12 @@
 // A change of one row, made in each column by itself.
+use crate::MAX_ROWS;
 use cells::cell;
 use cells::number;
 ghost use mathlib.Core.Path.{_≡_};
 ghost use Prim.Native.Nat.{_+_, _*_, _≤_};
 ghost use lib.ListN.{length, take};
 ghost use Rattle.cells.specs.Cells.{cells};
-ghost use Rattle.table.specs.Changes.{changed, countAfter, Fits};
+ghost use Rattle.table.specs.Changes.{changed, countAfter, Fits, isOver};
 
 // What happens to the rows: nothing, or one of them is taken out, set anew, or put in at its place.
 pub enum Change {
@@ -25,6 +26,18 @@ pub fn count_after(change: Change, count: usize) -> usize
         Change::Remove(_) => count - 1,
         Change::Replace(_) => count,
         Change::Insert(_) => count + 1,
+    }
+}
+
+// Whether a change would add a row to as many as there may be.
+pub fn overfills(change: Change, count: usize) -> bool
+    ensures { λ r. ⌜ r ≡ isOver change count ⌝ }
+{
+    match change {
+        Change::Leave => false,
+        Change::Remove(_) => false,
+        Change::Replace(_) => false,
+        Change::Insert(_) => MAX_ROWS <= count,
     }
 }
 

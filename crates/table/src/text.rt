@@ -12,6 +12,13 @@ pub fn size(n: u64) -> usize
     n as usize
 }
 
+// A size as a length.
+pub fn count_of(n: usize) -> u64
+    ensures { λ r. ⌜ r ≡ n ⌝ }
+{
+    n as u64
+}
+
 // The key of row i.
 pub fn key_at<'a>(keys: &'a [u8; 6400], lengths: &'a [u64; 64], i: usize) -> &'a [u8]
     requires { ⌜ (i < 64) × (getD (now lengths) i 0 ≤ 96) ⌝ }

@@ -1,6 +1,8 @@
 // Messages judged at every port. The client's subtree is /clip/7/.
-use crate::print;
 use crate::text;
+use answers::refusal;
+use answers::refusal::Verdict;
+use base::bytes;
 use frames::read;
 use frames::write;
 use messages::PROPERTIES;
@@ -18,7 +20,7 @@ pub(crate) fn judge_lines(s: &[u8]) {
     while i < s.len() {
         let rest = &s[i..];
         let end = text::place(rest, b'\n');
-        judge_line(text::front(rest, end));
+        judge_line(bytes::front(rest, end));
         i = i + end + 1;
     }
 }
@@ -29,32 +31,26 @@ fn judge_line(line: &[u8]) {
     }
     let kind = line[0];
     match kind {
-        b'=' => judge_bytes(text::behind(line, 2)),
-        b'+' => judge_frames(text::behind(line, 2)),
-        _ => heading(line),
+        b'=' => judge_bytes(bytes::behind(line, 2)),
+        b'+' => judge_frames(bytes::behind(line, 2)),
+        _ => print::heading(bytes::behind(line, 2)),
     }
-}
-
-fn heading(line: &[u8]) {
-    print::text(b"\n");
-    print::text(line);
-    print::text(b"\n");
 }
 
 // The bytes of a message behind a label.
 fn judge_bytes(line: &[u8]) {
     let mut msg = [0; 2048];
     let bar = text::place(line, b'|');
-    let n = text::decode(text::behind(line, bar + 1), &mut msg);
-    judge(text::front(line, bar), text::front(&msg, n));
+    let n = text::decode(bytes::behind(line, bar + 1), &mut msg);
+    judge(bytes::front(line, bar), bytes::front(&msg, n));
 }
 
 // The frames of a message behind a label.
 fn judge_frames(line: &[u8]) {
     let mut msg = [0; 2048];
     let bar = text::place(line, b'|');
-    let n = write_frames(text::behind(line, bar + 1), &mut msg);
-    judge(text::front(line, bar), text::front(&msg, n));
+    let n = write_frames(bytes::behind(line, bar + 1), &mut msg);
+    judge(bytes::front(line, bar), bytes::front(&msg, n));
 }
 
 // Writes the frames that a text has between bars.
@@ -65,7 +61,7 @@ fn write_frames(s: &[u8], out: &mut [u8]) -> usize {
         let rest = &s[i..];
         let bar = text::place(rest, b'|');
         let more = bar < rest.len();
-        at = write_frame(text::front(rest, bar), out, at, more);
+        at = write_frame(bytes::front(rest, bar), out, at, more);
         if bar == rest.len() {
             return at;
         }
@@ -76,27 +72,31 @@ fn write_frames(s: &[u8], out: &mut [u8]) -> usize {
 fn write_frame(s: &[u8], out: &mut [u8], at: usize, more: bool) -> usize {
     let mut body = [0; 512];
     let n = text::decode(s, &mut body);
-    write::put_frame(out, at, more, text::front(&body, n))
+    write::put_frame(out, at, more, bytes::front(&body, n))
 }
 
 // What the value entries and the ports make of a message: the number of the refusal, or 0.
 fn judge(label: &[u8], msg: &[u8]) {
     print::text(label);
-    print::code(b": value entries ", value::value_refusal(msg));
-    print::code(b" of ", value::value_frame(msg).len() as u64);
-    print::verdict(b", kvset ", kvset::check_kvset(msg));
-    print::verdict(b", icanhaz ", icanhaz::check_icanhaz(msg));
-    print::verdict(b", snapshot ", snapshot::check_snapshot(msg, b"/clip/7/"));
-    print::verdict(b", subscriber ", subscriber::check_subscriber(msg));
+    print::number(b": value entries ", value::value_refusal(msg));
+    print::number(b" of ", value::value_frame(msg).len() as u64);
+    verdict(b", kvset ", kvset::check_kvset(msg));
+    verdict(b", icanhaz ", icanhaz::check_icanhaz(msg));
+    verdict(b", snapshot ", snapshot::check_snapshot(msg, b"/clip/7/"));
+    verdict(b", subscriber ", subscriber::check_subscriber(msg));
     lifetime(read::body(msg, PROPERTIES));
     print::text(b"\n");
+}
+
+fn verdict(label: &[u8], v: Verdict) {
+    print::number(label, refusal::verdict_number(v));
 }
 
 // The lifetime in a properties frame, where there is one.
 fn lifetime(s: &[u8]) {
     if let Properties::Good(l) = properties::read::read_properties(s) {
         if let Lifetime::Seconds(n) = l {
-            print::code(b", lifetime ", n);
+            print::number(b", lifetime ", n);
         }
     }
 }

@@ -6,9 +6,9 @@
 //   = label|bytes of a message
 //   + label|frame|frame|..      which are written as a message
 mod judge;
-mod print;
 mod text;
 
+use base::bytes;
 use names::numbers::Sequence;
 
 fn main() {
@@ -22,7 +22,7 @@ fn main() {
 fn written() {
     let mut out = [0; 128];
     let end = messages::write::write_hugz(&mut out, 0);
-    print::bytes(b"HUGZ", text::front(&out, end));
+    print::hex(b"HUGZ", bytes::front(&out, end));
     let end = messages::write::write_kvpub(
         &mut out,
         0,
@@ -32,11 +32,11 @@ fn written() {
         b"",
         b"cut",
     );
-    print::bytes(b"KVPUB", text::front(&out, end));
+    print::hex(b"KVPUB", bytes::front(&out, end));
     let end = snapshot(&mut out, b"\x00ABCD");
-    print::bytes(b"snapshot", text::front(&out, end));
+    print::hex(b"snapshot", bytes::front(&out, end));
     let end = messages::write::write_icanhaz(&mut out, 0, b"/clip/7/");
-    print::bytes(b"ICANHAZ", text::front(&out, end));
+    print::hex(b"ICANHAZ", bytes::front(&out, end));
     short_output();
 }
 
@@ -51,6 +51,6 @@ fn snapshot(out: &mut [u8], identity: &[u8]) -> usize {
 fn short_output() {
     let mut out = [9; 21];
     let end = messages::write::write_hugz(&mut out, 0);
-    print::bytes(b"HUGZ into 21 bytes", text::front(&out, end));
-    print::bytes(b"which stay", &out);
+    print::hex(b"HUGZ into 21 bytes", bytes::front(&out, end));
+    print::hex(b"which stay", &out);
 }

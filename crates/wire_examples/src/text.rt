@@ -4,22 +4,6 @@ use base::bytes::Position;
 ghost use Prim.Native.Nat.{_≤_};
 ghost use lib.ListN.{length};
 
-// The first n bytes of s, or none where it has fewer.
-pub(crate) fn front(s: &[u8], n: usize) -> &[u8] {
-    if n <= s.len() {
-        return &s[..n];
-    }
-    &s[..0]
-}
-
-// What is behind the first n bytes of s, or nothing.
-pub(crate) fn behind(s: &[u8], n: usize) -> &[u8] {
-    if n <= s.len() {
-        return &s[n..];
-    }
-    &s[..0]
-}
-
 // The place of a byte, or the length where it is nowhere.
 pub(crate) fn place(s: &[u8], b: u8) -> usize
     ensures { λ r. ⌜ r ≤ length (now (s .entry)) ⌝ }

@@ -10,19 +10,11 @@ use Rattle.base.specs.Checks.{firstOf}
 use Rattle.server.proofs.IcanhazLaws.{requestChecks, snapshot-refused, snapshot-fits, snapshot-answered}
 use Rattle.server.proofs.icanhaz.icanhaz.Statement.{statement}
 use Rattle.server.proofs.icanhaz.icanhaz.Tie as tie
+use Rattle.server_state.specs.Views.{SizedServer}
 
 -- how long the columns are
-values-long : (s : tie.Start) → length (s .args .t1 .table .values) ≡ 16384
-values-long s = search needs
-
-lengths-long : (s : tie.Start) → length (s .args .t1 .table .«value_lengths») ≡ 64
-lengths-long s = search needs
-
-numbers-long : (s : tie.Start) → length (s .args .t1 .numbers) ≡ 64
-numbers-long s = search needs
-
-expiries-long : (s : tie.Start) → length (s .args .t1 .expiries) ≡ 64
-expiries-long s = search needs
+sized : (s : tie.Start) → SizedServer (s .args .t1)
+sized s = record { table = record { values = search needs; key-lengths = search needs; value-lengths = search needs }; numbers = search needs; expiries = search needs }
 
 stopped : (c : tie.After-r) → Refuse (c .r .given .0 .0) ≡ verdict (firstOf (requestChecks (c .before .before .before .before .before .before .before .before .before .before .before .before .before .args .t1) (now (c .before .before .before .before .before .before .before .before .before .before .before .before .before .args .msg)) (length (now (c .before .before .before .before .before .before .before .before .before .before .before .before .before .args .out)))))
 stopped c = sym (c .r .given .1) ∙ c .before .before .check-request .ensures
@@ -51,7 +43,7 @@ body-requires-2 c κs = search needs
 write-snapshot-requires : tie.Need-write-snapshot-requires
 write-snapshot-requires c κs =
     let s = c .before .before .before .before .before .before .before .before .before .before .before .before .before .before .before .before .before .before .before .before .before .before .before in
-    snapshot-fits (s .args .t1) (values-long s) (lengths-long s) (numbers-long s) (expiries-long s) (now (s .args .msg)) (now (s .args .out)) (all-well (c .before .before .before .before .before .before .before .before .before .before)) (c .before .body .ensures) (c .body2 .ensures)
+    snapshot-fits (s .args .t1) (sized s) (now (s .args .msg)) (now (s .args .out)) (all-well (c .before .before .before .before .before .before .before .before .before .before)) (c .before .body .ensures) (c .body2 .ensures)
 
 with-output-requires : tie.Need-with-output-requires
 with-output-requires c κs = search needs
@@ -59,7 +51,7 @@ with-output-requires c κs = search needs
 returns : tie.Need-returns
 returns c =
     let s = c .before .before .before .before .before .before .before .before .before .before .before .before .before .before .before in
-    snapshot-refused (s .args .t1) (values-long s) (lengths-long s) (numbers-long s) (expiries-long s) (now (s .args .msg)) (now (s .args .out)) _ _ (stopped (c .before .before)) refl (c .without-output .ensures)
+    snapshot-refused (s .args .t1) (sized s) (now (s .args .msg)) (now (s .args .out)) _ _ (stopped (c .before .before)) refl (c .without-output .ensures)
 
 same-length : tie.Need-same-length
 same-length c = search needs
@@ -67,7 +59,7 @@ same-length c = search needs
 returns-2 : tie.Need-returns-2
 returns-2 c =
     let s = c .before .before .before .before .before .before .before .before .before .before .before .before .before .before .before .before .before .before .before .before .before .before .before .before .before .before .before in
-    snapshot-answered (s .args .t1) (values-long s) (lengths-long s) (numbers-long s) (expiries-long s) (now (s .args .msg)) (now (s .args .out)) (all-well (c .before .before .before .before .before .before .before .before .before .before .before .before .before .before)) (c .before .before .before .before .before .body .ensures) (c .before .before .before .before .body2 .ensures) _ (c .before .before .before .write-snapshot .ensures) refl (c .with-output .ensures)
+    snapshot-answered (s .args .t1) (sized s) (now (s .args .msg)) (now (s .args .out)) (all-well (c .before .before .before .before .before .before .before .before .before .before .before .before .before .before)) (c .before .before .before .before .before .body .ensures) (c .before .before .before .before .body2 .ensures) _ (c .before .before .before .write-snapshot .ensures) refl (c .with-output .ensures)
 
 pub icanhaz-spec : {M : Type 1} → statement M
 icanhaz-spec =

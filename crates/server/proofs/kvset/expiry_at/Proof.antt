@@ -4,7 +4,7 @@ use mathlib.Core.Path.{refl, sym, ap, _∙_}
 use denote.Ref.{now}
 use Rattle.properties.specs.declared.read.Properties.the-variants.{Good}
 use Rattle.server.proofs.ExpiryLaws.{short-life, in-range, expires-then}
-use Rattle.server.specs.Next.{expiryAt}
+use Rattle.server_plan.specs.Next.{expiryAt}
 use borrow.Author.Needs.{needs}
 use Rattle.server.proofs.kvset.expiry_at.Statement.{statement}
 use Rattle.server.proofs.kvset.expiry_at.Tie as tie

@@ -16,14 +16,13 @@ use Rattle.messages.specs.Fields.{frameAt, fieldsOf}
 use Rattle.names.specs.declared.numbers.Sequence.{Sequence}
 use Rattle.properties.specs.Properties.{propertiesOf}
 use Rattle.server.proofs.AnswerLaws.{refused-call}
-use Rattle.server.proofs.KvsetLaws.{goes-on, goes-with, stops-with, written-as}
+use Rattle.server_plan.proofs.KvsetLaws.{goes-on, goes-with, stops-with, written-as}
 use Rattle.server.proofs.UpdateLaws.{kvsetTable, kvset-refusal, change-is-fit, key-short, value-short, in-time, number-left, kvset-done, frames-are}
-use Rattle.server.specs.Calls.{kvset}
-use Rattle.server.specs.Next.{expiryAt}
-use Rattle.server.specs.declared.kvset.Plan.the-variants.{Refuse}
-use Rattle.state.proofs.StateLaws.{SizedServer}
-use Rattle.state.specs.IllFormed.{illFormsOf}
-use Rattle.state.specs.Views.{keysOf}
+use Rattle.server_plan.specs.Calls.{kvset}
+use Rattle.server_plan.specs.Next.{expiryAt}
+use Rattle.server_plan.specs.declared.kvset.Plan.the-variants.{Refuse}
+use Rattle.server_state.specs.IllFormed.{illFormsOf}
+use Rattle.server_state.specs.Views.{keysOf, SizedServer}
 use Rattle.table.specs.Changes.{changed, Fits}
 use Rattle.answers.specs.declared.refusal.Refusal.{Refusal}
 use Rattle.table.specs.declared.change.Change.{Change}
@@ -33,7 +32,7 @@ use Rattle.server.proofs.kvset.kvset.Tie as tie
 
 -- how long the columns are
 sized : (s : tie.Start) → SizedServer (s .args .t1)
-sized s = record { key-lengths = search needs; value-lengths = search needs; numbers = search needs; expiries = search needs }
+sized s = record { table = record { values = search needs; key-lengths = search needs; value-lengths = search needs }; numbers = search needs; expiries = search needs }
 
 abbrev table : tie.Start → List (Check Refusal)
 table s = illFormsOf (s .args .t1) ++ kvsetTable (s .args .t1) (now (s .args .msg)) (s .args .tick .0) (length (now (s .args .out)))
@@ -164,14 +163,17 @@ returns-2 c =
     let made = g .change .given .0 .0 in
     kvset-done (a .t1) (sized s) (now (a .msg)) (a .tick .0) (length (now (a .out))) (passed g) made (planned g) _
     (record {
-      of-keys = (c .before .before .before .before .before .before .before .before .before .before .before .before .before .before .before .before .before .before .before .before .before .before .before) .change-keys .ensures;
-      of-values = (c .before .before .before .before .before .before .before .before .before .before .before .before .before .before .before .before .before .before .before) .change-values .ensures;
-      of-key-lengths = (c .before .before .before .before .before .before .before .before .before .before .before .before .before .before .before .before) .change-numbers .ensures;
-      of-value-lengths = (c .before .before .before .before .before .before .before .before .before .before .before .before .before) .change-numbers2 .ensures;
+      table = record {
+        of-keys = (c .before .before .before .before .before .before .before .before .before .before .before .before .before .before .before .before .before .before .before .before .before .before .before) .change-keys .ensures;
+        of-values = (c .before .before .before .before .before .before .before .before .before .before .before .before .before .before .before .before .before .before .before) .change-values .ensures;
+        of-key-lengths = (c .before .before .before .before .before .before .before .before .before .before .before .before .before .before .before .before) .change-numbers .ensures;
+        of-value-lengths = (c .before .before .before .before .before .before .before .before .before .before .before .before .before) .change-numbers2 .ensures;
+        of-count = (c .before .before .before .before .before .before .before) .count-after .ensures;
+      };
       of-numbers = (c .before .before .before .before .before .before .before .before .before .before .before) .change-numbers3 .ensures ∙ ap (λ (q : Sequence). changed made (q .0) (take (a .t1 .table .count) (a .t1 .numbers))) (number .ensures);
       of-expiries = (c .before .before .before .before .before .before .before .before) .change-numbers4 .ensures;
     })
-    ((c .before .before .before .before .before .before .before) .count-after .ensures) (ap (λ (q : Sequence). record { number = q; «last_tick» = a .tick; «last_published» = a .tick }) (number .ensures))
+    (ap (λ (q : Sequence). record { number = q; «last_tick» = a .tick; «last_published» = a .tick }) (number .ensures))
     (ap (λ (n : ℕ). take n (fresh .result .key)) (k .ensures) ∙ fresh .ensures .0 ∙ key-is) (k .ensures ∙ ap length key-is)
     (ap (λ (n : ℕ). take n (fresh .result .value)) (v .ensures) ∙ fresh .ensures .1 ∙ value-is) (v .ensures ∙ ap length value-is)
     (lasts .ensures .0 ∙ ap (λ (b : Bytes). expiryAt (a .tick .0) (propertiesOf b)) properties-is) (lasts .ensures .1)

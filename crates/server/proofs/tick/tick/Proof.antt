@@ -7,11 +7,11 @@ use borrow.Author.Needs.{needs}
 use Rattle.server.proofs.TickLaws.{RowKnown, row-holds, tick-refused, tick-quiet, tick-beat, tick-expired}
 use Rattle.server.proofs.tick.tick.Statement.{statement}
 use Rattle.server.proofs.tick.tick.Tie as tie
-use Rattle.state.proofs.StateLaws.{SizedServer}
+use Rattle.server_state.specs.Views.{SizedServer}
 
 -- how long the columns are
 sizes : (s : tie.Start) → SizedServer (s .args .t1)
-sizes s = record { key-lengths = search needs; value-lengths = search needs; numbers = search needs; expiries = search needs }
+sizes s = record { table = record { values = search needs; key-lengths = search needs; value-lengths = search needs }; numbers = search needs; expiries = search needs }
 
 -- where the function begins
 abbrev begin : tie.After-plan-tick → tie.Start
@@ -140,17 +140,19 @@ returns-2 c =
     let p = r .before .before in
     let s = begin p in
     tick-expired (s .args .t1) (s .args .tick) (now (s .args .out)) (sizes s) (p .plan-tick .ensures) (r .i .given .0 .0) (r .i .given .1)
-    (k .change-keys .last .0) (v .change-values .last .0) (n1 .change-numbers .last .0) (n2 .change-numbers2 .last .0) (n3 .change-numbers3 .last .0) (n4 .change-numbers4 .last .0) [] []
-    (c .before .before .count-after .result) (m .next-number .result) (c .with-output .result) (now (a .key-at .result)) (w .write-kvpub .result) (w .write-kvpub .last .0)
+    _ [] [] (m .next-number .result) (w .write-kvpub .result) (w .write-kvpub .last .0)
     (record {
-      of-keys = k .change-keys .ensures;
-      of-values = v .change-values .ensures;
-      of-key-lengths = n1 .change-numbers .ensures;
-      of-value-lengths = n2 .change-numbers2 .ensures;
+      table = record {
+        of-keys = k .change-keys .ensures;
+        of-values = v .change-values .ensures;
+        of-key-lengths = n1 .change-numbers .ensures;
+        of-value-lengths = n2 .change-numbers2 .ensures;
+        of-count = c .before .before .count-after .ensures;
+      };
       of-numbers = n3 .change-numbers3 .ensures;
       of-expiries = n4 .change-numbers4 .ensures;
     })
-    (c .before .before .count-after .ensures) (m .next-number .ensures) (a .key-at .ensures) (w .write-kvpub .ensures) (c .with-output .ensures)
+    refl (m .next-number .ensures) (a .key-at .ensures) (w .write-kvpub .ensures) (c .with-output .ensures)
 
 same-length-2 : tie.Need-same-length-2
 same-length-2 c = search needs

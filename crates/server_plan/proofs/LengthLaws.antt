@@ -1,0 +1,37 @@
+-- How long the messages are that a server writes. Each law follows from the one on a message's length, `bytes-length`. Assumes nothing.
+use Prim.Native.Nat.{ℕ, _≤_}
+use native.Mathlib.Omega.{arith}
+use mathlib.Core.Bool.{true}
+use mathlib.Core.List.{[]}
+use mathlib.Core.Path.{_≡_, ap}
+use lib.ListN.{length}
+use borrow.Author.Tests.{le-leb}
+use Rattle.base.proofs.OctetLaws.{length-octets}
+use Rattle.base.specs.Bytes.{Bytes}
+use Rattle.messages.proofs.LengthLaws.{hugz-bytes}
+use Rattle.messages.proofs.WriteLaws.{bytes-length}
+use Rattle.messages.specs.Fields.{Fields, bytesOf, kvpub, hugz, messageLength}
+use Rattle.names.proofs.UnderLaws.{key-short}
+use Rattle.names.specs.Keys.{isKey}
+use Rattle.server_plan.specs.Refusals.{update, expiry}
+
+-- the KVPUB of an update that was asked for
+pub update-length : (n : ℕ) (f : Fields) → length (update n f) ≡ messageLength (length (f .head)) (length (f .uuid)) (length (f .properties)) (length (f .value))
+unfolding update
+update-length n f = bytes-length (kvpub n (f .head) (f .uuid) (f .properties) (f .value)) (length-octets 8 n)
+
+-- the KVPUB of a row that expired: at most 114 bytes
+module _ (n : ℕ) (key : Bytes) where
+  pub expiry-length : length (expiry n key) ≡ messageLength (length key) 0 0 0
+  unfolding expiry
+  expiry-length = bytes-length (kvpub n key [] [] []) (length-octets 8 n)
+
+  pub expiry-bound : isKey key ≡ true → length (expiry n key) ≤ 114
+  expiry-bound e =
+      let k = key-short key e in
+      let f = le-leb (length key) 255 (omega arith) in
+      omega (arith, rw f at expiry-length)
+
+-- a sign of life
+pub hugz-length : length (bytesOf hugz) ≡ 22
+hugz-length = ap length hugz-bytes

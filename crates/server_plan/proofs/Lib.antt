@@ -1,0 +1,4 @@
+pub mod DeedLaws
+pub mod KvsetLaws
+pub mod LengthLaws
+pub mod RequestLaws

@@ -1,0 +1,66 @@
+-- What a server refuses, read over its ledger: a table of checks for each call, in the order of the refusals. That the state handed in
+-- is ill-formed stands before all of them.
+use Prim.Native.Nat.{ℕ, suc}
+use mathlib.Core.Bool.{Bool, not, _&&_}
+use mathlib.Core.List.{List, [], _∷_, _++_}
+use mathlib.Core.Option.{Option}
+use lib.Dec.{leb, ltb, eqb}
+use lib.ListN.{length}
+use Rattle.answers.specs.declared.refusal.Refusal.the-variants.{Full, Exhausted, ShortOutput}
+use Rattle.answers.specs.declared.refusal.Refusal.{Refusal}
+use Rattle.base.specs.Bytes.{Bytes, isNil}
+use Rattle.base.specs.Checks.Check.{when}
+use Rattle.base.specs.Checks.{Check, firstOf}
+use Rattle.messages.specs.Fields.{Fields, bytesOf, frameAt, fieldsOf, kvpub, hugz}
+use Rattle.names.specs.Numbers.{maxSequence}
+use Rattle.ports.specs.Ports.{kvsetPort, icanhazPort, tickChecks}
+use Rattle.rows.specs.Rows.{Rows, hasKey, mapRows}
+use Rattle.server_plan.specs.Calls.{Call, kvset, tick, icanhaz}
+use Rattle.server_plan.specs.Deeds.{Deed, expire, beat, quiet, deed}
+use Rattle.server_state.specs.IllFormed.{illFormsOf}
+use Rattle.server_state.specs.Snapshots.{snapshotLength}
+use Rattle.server_state.specs.Views.{Held, Ledger, view, ledgerOf}
+use Rattle.server_state.specs.declared.Server.{Server}
+
+-- the KVPUB of an update that was asked for, and of a row that expired
+unfoldable pub update : ℕ → Fields → Bytes
+update n f = bytesOf (kvpub n (f .head) (f .uuid) (f .properties) (f .value))
+
+unfoldable pub expiry : ℕ → Bytes → Bytes
+expiry n key = bytesOf (kvpub n key [] [] [])
+
+-- a row would be added to 64; a number is needed, and there is none; the output is too short. Of whether the key is held, how many rows there
+-- are, the number, the frames and the length of the output
+abbrev pub updateChecks : Bool → ℕ → ℕ → Fields → ℕ → List (Check Refusal)
+updateChecks held count n f room =
+    when (not (isNil (f .value)) && (not held && leb 64 count)) Full
+    ∷ when (eqb n maxSequence) Exhausted
+    ∷ when (ltb room (length (update (suc n) f))) ShortOutput
+    ∷ []
+
+abbrev pub deedChecks : ℕ → Deed → ℕ → List (Check Refusal)
+deedChecks n (expire key) room =
+    when (eqb n maxSequence) Exhausted
+    ∷ when (ltb room (length (expiry (suc n) key))) ShortOutput
+    ∷ []
+deedChecks n beat room = when (ltb room (length (bytesOf hugz))) ShortOutput ∷ []
+deedChecks n quiet room = []
+
+abbrev pub valueLength : Held → ℕ
+valueLength h = length (h .value)
+
+-- the output is too short for the whole snapshot
+abbrev pub snapshotChecks : Rows ℕ → Bytes → Bytes → ℕ → List (Check Refusal)
+snapshotChecks lengths identity subtree room =
+    when (ltb room (snapshotLength (length identity) subtree lengths)) ShortOutput
+    ∷ []
+
+-- ---- the calls
+unfoldable pub callChecks : Ledger Held → Call → List (Check Refusal)
+callChecks b (kvset msg t room) =
+    kvsetPort msg ++ (tickChecks (b .lastTick) t ++ updateChecks (hasKey (frameAt 0 msg) (b .rows)) (length (b .rows)) (b .number) (fieldsOf msg) room)
+callChecks b (tick t room) = tickChecks (b .lastTick) t ++ deedChecks (b .number) (deed b t) room
+callChecks b (icanhaz msg room) = icanhazPort msg ++ snapshotChecks (mapRows valueLength (b .rows)) (frameAt 0 msg) (frameAt 2 msg) room
+
+unfoldable pub refusalOf : Server → Call → Option Refusal
+refusalOf s x = firstOf (illFormsOf s ++ callChecks (ledgerOf (view s)) x)
