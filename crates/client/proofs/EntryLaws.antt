@@ -1,0 +1,292 @@
+-- Laws of the two entries that read messages: the checks over the columns come to the refusal of the call, and a message that passes them all is
+-- accepted, with what is known of it. Assumes nothing.
+use Prim.Native.Nat.{ℕ, _≤_, _<_}
+use native.Mathlib.Omega.{arith}
+use mathlib.Core.Bool.{Bool, true, false, not, cond}
+use mathlib.Core.List.{List, [], _++_}
+use mathlib.Core.Option.{Option, none, some}
+use mathlib.Core.Path.{_≡_, refl, sym, ap, _∙_}
+use lib.Dec.{leb}
+use lib.ListN.{length, take}
+use borrow.Author.Tests.{leb-true, not-false}
+use Rattle.answers.specs.Answers.{answer}
+use Rattle.answers.specs.declared.answer.Kind.{Kind}
+use Rattle.answers.specs.declared.refusal.Refusal.{Refusal}
+use Rattle.base.proofs.CheckLaws.{passed, both-passed}
+use Rattle.base.specs.Bytes.{Bytes, same}
+use Rattle.base.specs.Checks.{Check, firstOf}
+use Rattle.base.specs.Octets.{number}
+use Rattle.base.specs.Output.{put}
+use Rattle.client_state.proofs.FormLaws.{GoodClient, good-client, client-good}
+use Rattle.client_state.specs.IllFormed.{illForms, illFormsOf}
+use Rattle.client_state.specs.Views.{isWaiting, subtreeOf, view}
+use Rattle.client_state.specs.declared.Client.{Client}
+use Rattle.client_state.specs.declared.Header.{Header}
+use Rattle.client.proofs.AnswerLaws.{accepted-call, refusal-is}
+use Rattle.client.proofs.EffectLaws.{Taken, RowKnown, row-known, InPhase, InTime, Carries, noted, noted-view, noted-kind, noted-good, stored-view, stored-kind, stored-good}
+use Rattle.client_plan.proofs.MessageLaws.{snapshot-sound, published-sound}
+use Rattle.client_plan.specs.Answers.{effectKind, acceptedKind}
+use Rattle.client_plan.specs.Calls.{Call, snapshot, subscriber}
+use Rattle.client_plan.specs.Effects.{Effect, sync, finish, hear, stale, outside, apply, snapshotEffect, subscriberEffect}
+use Rattle.client_plan.specs.Next.{effectNext, acceptedNext}
+use Rattle.client_plan.specs.Output.{acceptedBytes}
+use Rattle.client_plan.specs.Plans.{planOf, planBy}
+use Rattle.client.specs.Promises.{Answered}
+use Rattle.client_plan.specs.Refusals.{overfills, effectChecks, timeChecks, callChecks, refusalOf}
+use Rattle.client.specs.declared.Reply.{Reply}
+use Rattle.client_plan.specs.declared.plan.Plan.the-variants.{Refuse, Note, Store}
+use Rattle.client_plan.specs.declared.plan.Plan.{Plan}
+use Rattle.frames.specs.Messages.{bodyAt}
+use Rattle.messages.specs.Fields.{Fields, frameAt, fieldsOf}
+use Rattle.names.proofs.UnderLaws.{key-short}
+use Rattle.names.specs.Keys.{under}
+use Rattle.names.specs.Numbers.{maxTick}
+use Rattle.names.specs.Words.{wordKthxbai, wordHugz}
+use Rattle.ports.proofs.PortLaws.{port-frame}
+use Rattle.ports.specs.Ports.{framed, snapshotChecks, snapshotPort, publishedChecks, subscriberPort, tickChecks}
+use Rattle.table.proofs.FindLaws.{held-found}
+use Rattle.table.proofs.TableLaws.{Altered, as-long, rows-long}
+use Rattle.table.specs.Columns.{rowsOf, tableKeys, tableValues, SizedTable}
+use Rattle.table.specs.Find.{placeOf, isFound}
+use Rattle.table.specs.declared.change.Change.{Change}
+use Rattle.rows.specs.Rows.{hasKey}
+
+-- ---- whether a row is one too many, over the columns and over the rows
+module _ (held held′ : Bytes → Bool) (n n′ : ℕ) (as-held : (k : Bytes) → held k ≡ held′ k) (as-many : n ≡ n′) where
+  overfills-same : (e : Effect) → overfills held n e ≡ overfills held′ n′ e
+  overfills-same (sync key value) = rw (as-held key, as-many)
+  overfills-same (finish m) = refl
+  overfills-same (hear t) = refl
+  overfills-same stale = refl
+  overfills-same (outside m) = refl
+  overfills-same (apply m key value) = rw (as-held key, as-many)
+
+-- whether a client's keys are found among its columns
+abbrev pub heldIn : Client → Bytes → Bool
+heldIn c k = isFound (placeOf 0 k (tableKeys (c .table)))
+
+module _ (c : Client) (z : SizedTable (c .table)) (g : GoodClient c) (e : Effect) where
+  as-rows : overfills (heldIn c) (c .table .count) e ≡ overfills (λ (k : Bytes). hasKey k (view c .rows)) (length (view c .rows)) e
+  unfolding view
+  as-rows =
+      overfills-same (heldIn c) (λ (k : Bytes). hasKey k (rowsOf (tableKeys (c .table)) (tableValues (c .table)))) (c .table .count) (length (rowsOf (tableKeys (c .table)) (tableValues (c .table))))
+      (λ k. sym (held-found k (tableKeys (c .table)) (tableValues (c .table)) (as-long z (g .rows .count)) (g .rows .rise))) (sym (rows-long z (g .rows .count))) e
+
+-- ---- the checks behind that of the state, as they are made over the columns
+abbrev pub snapshotTable : Client → Bytes → List (Check Refusal)
+snapshotTable c msg =
+    snapshotPort (subtreeOf c) msg ++ effectChecks (not (isWaiting (c .header .phase))) (heldIn c) (c .table .count) (snapshotEffect (fieldsOf msg))
+
+abbrev pub subscriberTable : Client → Bytes → ℕ → List (Check Refusal)
+subscriberTable c msg t =
+    subscriberPort msg
+    ++ (timeChecks (c .header .clock .0) (fieldsOf msg) t
+    ++ effectChecks (isWaiting (c .header .phase)) (heldIn c) (c .table .count) (subscriberEffect (c .header .number .0) (subtreeOf c) (fieldsOf msg) t))
+
+module _ (c : Client) (z : SizedTable (c .table)) (msg : Bytes) where
+  pub snapshot-refusal : firstOf (illFormsOf c ++ snapshotTable c msg) ≡ refusalOf c (snapshot msg)
+  unfolding callChecks view
+  snapshot-refusal = refusal-is c (snapshot msg) (snapshotTable c msg) (λ w. rw (as-rows c z (good-client c w) (snapshotEffect (fieldsOf msg))))
+
+  pub subscriber-refusal : (t : ℕ) → firstOf (illFormsOf c ++ subscriberTable c msg t) ≡ refusalOf c (subscriber msg t)
+  unfolding callChecks view
+  subscriber-refusal t =
+      refusal-is c (subscriber msg t) (subscriberTable c msg t) (λ w. rw (as-rows c z (good-client c w) (subscriberEffect (c .header .number .0) (subtreeOf c) (fieldsOf msg) t), not-not (isWaiting (c .header .phase))))
+    where
+      not-not : (b : Bool) → not (not b) ≡ b
+      not-not true = refl
+      not-not false = refl
+
+-- ---- a message that is accepted
+-- the call x hands in the message msg, whose effect is e
+pub record Message (c : Client) (x : Call) (msg : Bytes) (e : Effect) : Type 0 where
+  pub accepted : refusalOf c x ≡ none
+  pub next : acceptedNext (view c) x ≡ effectNext (view c) e
+  pub kind : acceptedKind (view c) x ≡ effectKind (c .header .number .0) e
+  pub bytes : acceptedBytes (view c) x ≡ []
+  pub taken : Taken c e
+  pub carries : Carries e (frameAt 0 msg) (frameAt 4 msg)
+  pub frames : (k : ℕ) → k < 5 → bodyAt k msg ≡ frameAt k msg
+
+-- by the word in front
+module _ (f : Fields) where
+  snapshot-in-phase : (phase : ℕ) → isWaiting phase ≡ true → InPhase (snapshotEffect f) phase
+  snapshot-in-phase phase h = go (same wordKthxbai (f .head))
+    where
+      go : (b : Bool) → InPhase (cond b (finish (number (f .sequence))) (sync (f .head) (f .value))) phase
+      go true = h
+      go false = h
+
+  snapshot-in-time : InTime (snapshotEffect f)
+  snapshot-in-time = go (same wordKthxbai (f .head))
+    where
+      go : (b : Bool) → InTime (cond b (finish (number (f .sequence))) (sync (f .head) (f .value)))
+      go true = tt
+      go false = tt
+
+  snapshot-carries : Carries (snapshotEffect f) (f .head) (f .value)
+  snapshot-carries = go (same wordKthxbai (f .head))
+    where
+      go : (b : Bool) → Carries (cond b (finish (number (f .sequence))) (sync (f .head) (f .value))) (f .head) (f .value)
+      go true = tt
+      go false = (refl, refl)
+
+  module _ (n : ℕ) (subtree : Bytes) (t : ℕ) where
+    -- of one of the four effects of a published message
+    published : (P : Effect → Type 0) → P (hear t) → P stale → P (outside (number (f .sequence))) → P (apply (number (f .sequence)) (f .head) (f .value)) → P (subscriberEffect n subtree f t)
+    published P h s o a = go (same wordHugz (f .head)) (leb (number (f .sequence)) n) (under subtree (f .head))
+      where
+        go : (beats old in-it : Bool) → P (cond beats (hear t) (cond old stale (cond in-it (apply (number (f .sequence)) (f .head) (f .value)) (outside (number (f .sequence))))))
+        go true old in-it = h
+        go false true in-it = s
+        go false false true = a
+        go false false false = o
+
+    published-in-phase : (phase : ℕ) → isWaiting phase ≡ false → InPhase (subscriberEffect n subtree f t) phase
+    published-in-phase phase h = published (λ (e : Effect). InPhase e phase) h h h h
+
+    published-in-time : (clock : ℕ) → firstOf (timeChecks clock f t) ≡ none → InTime (subscriberEffect n subtree f t)
+    published-in-time clock e = go (same wordHugz (f .head)) (leb (number (f .sequence)) n) (under subtree (f .head)) e
+      where
+        go : (beats old in-it : Bool) → firstOf (cond beats (tickChecks clock t) []) ≡ none
+            → InTime (cond beats (hear t) (cond old stale (cond in-it (apply (number (f .sequence)) (f .head) (f .value)) (outside (number (f .sequence))))))
+        go true old in-it h = leb-true t maxTick (not-false _ (passed 0 (tickChecks clock t) h))
+        go false true in-it h = tt
+        go false false true h = tt
+        go false false false h = tt
+
+    published-carries : Carries (subscriberEffect n subtree f t) (f .head) (f .value)
+    published-carries = published (λ (e : Effect). Carries e (f .head) (f .value)) tt tt tt (refl, refl)
+
+module _ (c : Client) (z : SizedTable (c .table)) (msg : Bytes) where
+  pub snapshot-message : firstOf (illFormsOf c ++ snapshotTable c msg) ≡ none → Message c (snapshot msg) msg (snapshotEffect (fieldsOf msg))
+  unfolding acceptedNext acceptedBytes view
+  snapshot-message e =
+      let f = fieldsOf msg in
+      let behind = effectChecks (not (isWaiting (c .header .phase))) (heldIn c) (c .table .count) (snapshotEffect (fieldsOf msg)) in
+      let a = both-passed (illFormsOf c) (snapshotTable c msg) e in
+      let b = both-passed (snapshotPort (subtreeOf c) msg) behind (a .1) in
+      let d = both-passed (framed 5 msg) (snapshotChecks (subtreeOf c) f) (b .0) in
+      record {
+        accepted = sym (snapshot-refusal c z msg) ∙ e;
+        next = refl;
+        kind = refl;
+        bytes = refl;
+        taken = record {
+          good = good-client c (a .0);
+          sound = snapshot-sound (subtreeOf c) f (d .1);
+          in-phase = snapshot-in-phase f (c .header .phase) (not-false _ (passed 0 behind (b .1)));
+          in-time = snapshot-in-time f;
+          room = passed 1 behind (b .1);
+        };
+        carries = snapshot-carries f;
+        frames = port-frame 5 msg (snapshotChecks (subtreeOf c) f) (b .0);
+      }
+
+  pub subscriber-message : (t : ℕ) → firstOf (illFormsOf c ++ subscriberTable c msg t) ≡ none
+      → Message c (subscriber msg t) msg (subscriberEffect (c .header .number .0) (subtreeOf c) (fieldsOf msg) t)
+  unfolding acceptedNext acceptedBytes view
+  subscriber-message t e =
+      let f = fieldsOf msg in
+      let effect = subscriberEffect (c .header .number .0) (subtreeOf c) (fieldsOf msg) t in
+      let behind = effectChecks (isWaiting (c .header .phase)) (heldIn c) (c .table .count) effect in
+      let a = both-passed (illFormsOf c) (subscriberTable c msg t) e in
+      let b = both-passed (subscriberPort msg) (timeChecks (c .header .clock .0) f t ++ behind) (a .1) in
+      let d = both-passed (framed 5 msg) (publishedChecks f) (b .0) in
+      let g = both-passed (timeChecks (c .header .clock .0) f t) behind (b .1) in
+      record {
+        accepted = sym (subscriber-refusal c z msg t) ∙ e;
+        next = refl;
+        kind = refl;
+        bytes = refl;
+        taken = record {
+          good = good-client c (a .0);
+          sound = published-sound f (c .header .number .0) (subtreeOf c) t (d .1);
+          in-phase = published-in-phase f (c .header .number .0) (subtreeOf c) t (c .header .phase) (passed 0 behind (g .1));
+          in-time = published-in-time f (c .header .number .0) (subtreeOf c) t (c .header .clock .0) (g .0);
+          room = passed 1 behind (g .1);
+        };
+        carries = published-carries f (c .header .number .0) (subtreeOf c) t;
+        frames = port-frame 5 msg (publishedChecks f) (b .0);
+      }
+
+-- what is known of the row that it stores, and of the frames that hold it
+module _ (c : Client) (x : Call) (msg : Bytes) (e : Effect) (m : Message c x msg e) (z : SizedTable (c .table)) (change : Change) (h : Header) (k : Kind)
+    (p : planBy (c .header) (tableKeys (c .table)) e ≡ Store change h k) where
+  pub message-row : RowKnown c change (frameAt 0 msg) (frameAt 4 msg)
+  message-row = row-known c z change h k (frameAt 0 msg) (frameAt 4 msg) e (m .taken) (m .carries) p
+
+  pub key-fits : {key : Bytes} → key ≡ bodyAt 0 msg → length key ≤ 96
+  key-fits e = rw (e, m .frames 0 (omega arith)) (key-short (frameAt 0 msg) (message-row .key-good))
+
+  pub value-fits : {value : Bytes} → value ≡ bodyAt 4 msg → length value ≤ 256
+  value-fits e = rw (e, m .frames 4 (omega arith)) (message-row .value-short)
+
+-- ---- the plans of the entries, made with the part of the subtree's array that counts
+module _ (c : Client) (b msg : Bytes) (b-is : b ≡ subtreeOf c) {plan : Plan} where
+  pub snapshot-planned : plan ≡ planOf (firstOf (illForms (c .table .keys) (c .table .«key_lengths») (c .table .«value_lengths») (c .table .count) b (c .«subtree_length») (c .header) ++ (snapshotPort b msg ++ effectChecks (not (isWaiting (c .header .phase))) (heldIn c) (c .table .count) (snapshotEffect (fieldsOf msg))))) (planBy (c .header) (tableKeys (c .table)) (snapshotEffect (fieldsOf msg)))
+      → plan ≡ planOf (firstOf (illFormsOf c ++ snapshotTable c msg)) (planBy (c .header) (tableKeys (c .table)) (snapshotEffect (fieldsOf msg)))
+  unfolding illFormsOf
+  snapshot-planned e = rw (← b-is) e
+
+  pub subscriber-planned : (t : ℕ) → plan ≡ planOf (firstOf (illForms (c .table .keys) (c .table .«key_lengths») (c .table .«value_lengths») (c .table .count) b (c .«subtree_length») (c .header) ++ (subscriberPort msg ++ (timeChecks (c .header .clock .0) (fieldsOf msg) t ++ effectChecks (isWaiting (c .header .phase)) (heldIn c) (c .table .count) (subscriberEffect (c .header .number .0) b (fieldsOf msg) t))))) (planBy (c .header) (tableKeys (c .table)) (subscriberEffect (c .header .number .0) b (fieldsOf msg) t))
+      → plan ≡ planOf (firstOf (illFormsOf c ++ subscriberTable c msg t)) (planBy (c .header) (tableKeys (c .table)) (subscriberEffect (c .header .number .0) (subtreeOf c) (fieldsOf msg) t))
+  unfolding illFormsOf
+  subscriber-planned t e = rw (← b-is) e
+
+-- ---- what a plan says of the checks and of the effect
+module _ (x : Option Refusal) (h : Header) (keys : List Bytes) (e : Effect) {plan : Plan} (is : plan ≡ planOf x (planBy h keys e)) where
+  clash : {A : Type 0} → _≡_ {A = ℕ} 0 1 → A
+  clash z = absurd (omega arith)
+
+  goes : (r : Refusal) (f : Effect) → planBy h keys f ≡ Refuse r → ⊥
+  goes r (sync key value) p = clash cc
+  goes r (finish n) p = clash cc
+  goes r (hear t) p = clash cc
+  goes r stale p = clash cc
+  goes r (outside n) p = clash cc
+  goes r (apply n key value) p = clash cc
+
+  pub plan-refused : {r : Refusal} → plan ≡ Refuse r → x ≡ some r
+  plan-refused {r} p = go x (sym is ∙ p)
+    where
+      go : (y : Option Refusal) → planOf y (planBy h keys e) ≡ Refuse r → y ≡ some r
+      go none q = absurd (goes r e q)
+      go (some s) q = let i : s ≡ r = cc in ap some i
+
+  pub plan-noted : {after : Header} {k : Kind} → plan ≡ Note after k → (x ≡ none) × (planBy h keys e ≡ Note after k)
+  plan-noted {after} {k} p = go x (sym is ∙ p)
+    where
+      go : (y : Option Refusal) → planOf y (planBy h keys e) ≡ Note after k → (y ≡ none) × (planBy h keys e ≡ Note after k)
+      go none q = (refl, q)
+      go (some s) q = clash cc
+
+  pub plan-stored : {change : Change} {after : Header} {k : Kind} → plan ≡ Store change after k → (x ≡ none) × (planBy h keys e ≡ Store change after k)
+  plan-stored {change} {after} {k} p = go x (sym is ∙ p)
+    where
+      go : (y : Option Refusal) → planOf y (planBy h keys e) ≡ Store change after k → (y ≡ none) × (planBy h keys e ≡ Store change after k)
+      go none q = (refl, q)
+      go (some s) q = clash cc
+
+-- ---- and what is then done
+module _ (c : Client) (x : Call) (msg : Bytes) (e : Effect) (m : Message c x msg e) (r : Reply) (h : Header) (k : Kind) (told : r .answer ≡ answer k 0) where
+  done : k ≡ effectKind (c .header .number .0) e → view (r .state) ≡ effectNext (view c) e → GoodClient (r .state) → Answered c x [] r []
+  unfolding put
+  done kind-is view-is good =
+      accepted-call c x [] r [] (m .accepted) (told ∙ rw (m .kind, m .bytes, kind-is)) (view-is ∙ sym (m .next)) (rw (m .bytes)) (λ w. client-good (r .state) good)
+
+  pub message-noted : planBy (c .header) (tableKeys (c .table)) e ≡ Note h k → r .state ≡ noted c h k → Answered c x [] r []
+  message-noted p state-is =
+      done (noted-kind c h k e p) (ap view state-is ∙ noted-view c h k e p) (rw state-is (noted-good c h k e (m .taken) p))
+
+  pub message-stored : (z : SizedTable (c .table)) (change : Change) → planBy (c .header) (tableKeys (c .table)) e ≡ Store change h k → {i j : ℕ} {keyCell valueCell : Bytes} → Altered change i j keyCell valueCell (c .table) (r .state .table) → r .state .subtree ≡ c .subtree
+      → r .state .«subtree_length» ≡ c .«subtree_length» → r .state .header ≡ h
+      → take i keyCell ≡ frameAt 0 msg → i ≡ length (frameAt 0 msg) → take j valueCell ≡ frameAt 4 msg → j ≡ length (frameAt 4 msg) → Answered c x [] r []
+  message-stored z change p columns subtree-is long header-is key-is i-is value-is j-is =
+      let s : subtreeOf (r .state) ≡ subtreeOf c = rw (subtree-is, long) in
+      let key = frameAt 0 msg in
+      let value = frameAt 4 msg in
+      let w = m .carries in
+      done (stored-kind c z change h k key value (r .state) columns s header-is key-is i-is value-is j-is e p)
+      (stored-view c z change h k key value (r .state) columns s header-is key-is i-is value-is j-is e (m .taken) w p)
+      (stored-good c z change h k key value (r .state) columns s header-is key-is i-is value-is j-is e (m .taken) w p long)

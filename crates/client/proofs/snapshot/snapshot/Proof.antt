@@ -1,0 +1,181 @@
+-- `client::snapshot::snapshot` meets its contract: what was planned is noted in the header and stored in every column. Assumes nothing.
+use Prim.Native.Nat.{ℕ}
+use native.Mathlib.Omega.{arith}
+use mathlib.Core.List.{List, _++_}
+use mathlib.Core.Option.{none}
+use mathlib.Core.Path.{_≡_, refl, sym, ap, _∙_}
+use lib.ListN.{length, take}
+use denote.Ref.{now}
+use Rattle.answers.specs.declared.refusal.Refusal.{Refusal}
+use Rattle.base.specs.Checks.{Check, firstOf}
+use Rattle.client_state.specs.IllFormed.{illFormsOf}
+use Rattle.client.proofs.AnswerLaws.{refused-call}
+use Rattle.client.proofs.EffectLaws.{RowKnown}
+use Rattle.client.proofs.EntryLaws.{snapshotTable, snapshot-refusal, Message, snapshot-message, message-row, key-fits, value-fits, snapshot-planned, plan-refused, plan-noted, plan-stored, message-noted, message-stored}
+use Rattle.client_plan.specs.Calls.{snapshot}
+use Rattle.client_plan.specs.Effects.{Effect, snapshotEffect}
+use Rattle.client_plan.specs.Plans.{planOf, planBy}
+use Rattle.client_plan.specs.declared.plan.Plan.the-variants.{Store}
+use Rattle.client_plan.specs.declared.plan.Plan.{Plan}
+use Rattle.messages.specs.Fields.{frameAt, fieldsOf}
+use Rattle.table.specs.Columns.{tableKeys, SizedTable}
+use borrow.Author.Needs.{needs}
+use Rattle.client.proofs.snapshot.snapshot.Statement.{statement}
+use Rattle.client.proofs.snapshot.snapshot.Tie as tie
+
+-- how long the columns are
+sized : (s : tie.Start) → SizedTable (s .args .t1 .table)
+sized s = record { values = search needs; key-lengths = search needs; value-lengths = search needs }
+
+-- where the function begins, and what its call is and does
+abbrev begin : tie.After-plan-snapshot → tie.Start
+begin c = c .before .before .before .before .before .before .before .before .before .before
+
+abbrev checks : tie.Start → List (Check Refusal)
+checks s = illFormsOf (s .args .t1) ++ snapshotTable (s .args .t1) (now (s .args .msg))
+
+abbrev effect : tie.Start → Effect
+effect s = snapshotEffect (fieldsOf (now (s .args .msg)))
+
+abbrev planFor : tie.Start → Plan
+planFor s = planBy (s .args .t1 .header) (tableKeys (s .args .t1 .table)) (effect s)
+
+-- ---- the plan
+planned : (c : tie.After-plan-snapshot) → c .plan-snapshot .result ≡ planOf (firstOf (checks (begin c))) (planFor (begin c))
+planned c =
+    let s = begin c in
+    snapshot-planned (s .args .t1) _ (now (s .args .msg)) (c .before .subtree-in .ensures) (c .plan-snapshot .ensures)
+
+message : (s : tie.Start) → firstOf (checks s) ≡ none → Message (s .args .t1) (snapshot (now (s .args .msg))) (now (s .args .msg)) (effect s)
+message s e = snapshot-message (s .args .t1) (sized s) (now (s .args .msg)) e
+
+-- a message that stores a row
+stores : (c : tie.After-change) → (firstOf (checks (begin (c .before .before))) ≡ none) × (planFor (begin (c .before .before)) ≡ Store (c .change .given .0 .0) (c .change .given .0 .1 .0) (c .change .given .0 .1 .1 .0))
+stores c =
+    let p = c .before .before in
+    let s = begin p in
+    plan-stored (firstOf (checks s)) (s .args .t1 .header) (tableKeys (s .args .t1 .table)) (effect s) (planned p) (c .change .given .1)
+
+row : (c : tie.After-change) → RowKnown (begin (c .before .before) .args .t1) (c .change .given .0 .0) (frameAt 0 (now (begin (c .before .before) .args .msg))) (frameAt 4 (now (begin (c .before .before) .args .msg)))
+row c =
+    let s = begin (c .before .before) in
+    message-row (s .args .t1) (snapshot (now (s .args .msg))) (now (s .args .msg)) (effect s) (message s (stores c .0)) (sized s) _ _ _ (stores c .1)
+
+subtree-in-requires : tie.Need-subtree-in-requires
+subtree-in-requires c κs = search needs
+
+plan-snapshot-requires : tie.Need-plan-snapshot-requires
+plan-snapshot-requires c κs = search needs
+
+enum-known-r : tie.Need-enum-known-r
+enum-known-r c = search needs
+
+without-output-requires : tie.Need-without-output-requires
+without-output-requires c κs = search needs
+
+returns : tie.Need-returns
+returns c =
+    let s = c .before .before .before .before .before .before .before .before .before .before .before .before .before .before in
+    let p = c .before .before .before .before in
+    refused-call (s .args .t1) (snapshot (now (s .args .msg))) _ _ _ (sym (snapshot-refusal (s .args .t1) (sized s) (now (s .args .msg))) ∙ plan-refused (firstOf (checks s)) (s .args .t1 .header) (tableKeys (s .args .t1 .table)) (effect s) (planned p) (c .before .before .r .given .1)) refl (c .without-output .ensures)
+
+enum-known-after : tie.Need-enum-known-after
+enum-known-after c = search needs
+
+without-output-requires-2 : tie.Need-without-output-requires-2
+without-output-requires-2 c κs = search needs
+
+returns-2 : tie.Need-returns-2
+returns-2 c =
+    let s = c .before .before .before .before .before .before .before .before .before .before .before .before .before .before in
+    let p = c .before .before .before .before in
+    let n = plan-noted (firstOf (checks s)) (s .args .t1 .header) (tableKeys (s .args .t1 .table)) (effect s) (planned p) (c .before .before .after .given .1) in
+    message-noted (s .args .t1) (snapshot (now (s .args .msg))) (now (s .args .msg)) (effect s) (message s (n .0)) _ _ _ (c .without-output2 .ensures) (n .1) refl
+
+enum-known-change : tie.Need-enum-known-change
+enum-known-change c = search needs
+
+body-requires : tie.Need-body-requires
+body-requires c κs = search needs
+
+body-requires-2 : tie.Need-body-requires-2
+body-requires-2 c κs = search needs
+
+fresh-row-requires : tie.Need-fresh-row-requires
+fresh-row-requires c κs =
+    let s = c .before .before .before .before .before .before .before .before .before .before .before .before .before .before .before in
+    let g = c .before .before .before in
+    let m = message s (stores g .0) in
+    (key-fits (s .args .t1) (snapshot (now (s .args .msg))) (now (s .args .msg)) (effect s) m (sized s) _ _ _ (stores g .1) (c .before .body .ensures), value-fits (s .args .t1) (snapshot (now (s .args .msg))) (now (s .args .msg)) (effect s) m (sized s) _ _ _ (stores g .1) (c .body2 .ensures))
+
+change-keys-requires : tie.Need-change-keys-requires
+change-keys-requires c κs = row (c .before .before .before .before .before .before .before) .fits
+
+change-values-requires : tie.Need-change-values-requires
+change-values-requires c κs = row (c .before .before .before .before .before .before .before .before .before .before .before) .fits
+
+count-of-requires : tie.Need-count-of-requires
+count-of-requires c κs = search needs
+
+change-numbers-requires : tie.Need-change-numbers-requires
+change-numbers-requires c κs = row (c .before .before .before .before .before .before .before .before .before .before .before .before .before .before) .fits
+
+count-of-requires-2 : tie.Need-count-of-requires-2
+count-of-requires-2 c κs = search needs
+
+change-numbers-requires-2 : tie.Need-change-numbers-requires-2
+change-numbers-requires-2 c κs = row (c .before .before .before .before .before .before .before .before .before .before .before .before .before .before .before .before .before) .fits
+
+count-after-requires : tie.Need-count-after-requires
+count-after-requires c κs = row (c .before .before .before .before .before .before .before .before .before .before .before .before .before .before .before .before .before .before) .fits
+
+without-output-requires-3 : tie.Need-without-output-requires-3
+without-output-requires-3 c κs = search needs
+
+returns-3 : tie.Need-returns-3
+returns-3 c =
+    let s = c .before .before .before .before .before .before .before .before .before .before .before .before .before .before .before .before .before .before .before .before .before .before .before .before .before .before .before .before .before .before .before .before .before in
+    let g = c .before .before .before .before .before .before .before .before .before .before .before .before .before .before .before .before .before .before .before .before .before in
+    let m = message s (stores g .0) in
+    let key-is = c .before .before .before .before .before .before .before .before .before .before .before .before .before .before .before .before .before .before .before .body .ensures ∙ m .frames 0 (omega arith) in
+    let value-is = c .before .before .before .before .before .before .before .before .before .before .before .before .before .before .before .before .before .before .body2 .ensures ∙ m .frames 4 (omega arith) in
+    let fresh = c .before .before .before .before .before .before .before .before .before .before .before .before .before .before .before .before .before .fresh-row in
+    let i = c .before .before .before .before .before .before .before .count-of in
+    let j = c .before .before .before .before .count-of2 in
+    message-stored (s .args .t1) (snapshot (now (s .args .msg))) (now (s .args .msg)) (effect s) m _ _ _ (c .without-output3 .ensures) (sized s) _ (stores g .1)
+    (record {
+      of-keys = c .before .before .before .before .before .before .before .before .before .before .before .before .before .change-keys .ensures;
+      of-values = c .before .before .before .before .before .before .before .before .before .change-values .ensures;
+      of-key-lengths = c .before .before .before .before .before .before .change-numbers .ensures;
+      of-value-lengths = c .before .before .before .change-numbers2 .ensures;
+      of-count = c .before .before .count-after .ensures;
+    })
+    refl refl refl
+    (ap (λ (n : ℕ). take n (fresh .result .key)) (i .ensures) ∙ fresh .ensures .0 ∙ key-is) (i .ensures ∙ ap length key-is)
+    (ap (λ (n : ℕ). take n (fresh .result .value)) (j .ensures) ∙ fresh .ensures .1 ∙ value-is) (j .ensures ∙ ap length value-is)
+
+pub snapshot-spec : {M : Type 1} → statement M
+snapshot-spec =
+    tie.close
+    (tie.spec
+    subtree-in-requires
+    plan-snapshot-requires
+    enum-known-r
+    without-output-requires
+    returns
+    enum-known-after
+    without-output-requires-2
+    returns-2
+    enum-known-change
+    body-requires
+    body-requires-2
+    fresh-row-requires
+    change-keys-requires
+    change-values-requires
+    count-of-requires
+    change-numbers-requires
+    count-of-requires-2
+    change-numbers-requires-2
+    count-after-requires
+    without-output-requires-3
+    returns-3)

@@ -1,0 +1,47 @@
+-- `client_plan::ask::check_ask` meets its contract: the state, and then the tick. Assumes nothing.
+use mathlib.Core.Path.{sym, ap, _∙_}
+use denote.Ref.{now}
+use Rattle.answers.specs.Refusals.{verdict}
+use Rattle.answers.specs.declared.refusal.Refusal.{Refusal}
+use Rattle.base.specs.Checks.{Check}
+use Rattle.client_state.specs.IllFormed.{illForms}
+use mathlib.Core.List.{List}
+use Rattle.answers.proofs.VerdictLaws.{past-accepted, past-refused}
+use Rattle.ports.specs.Ports.{tickChecks}
+use borrow.Author.Needs.{needs}
+use Rattle.client_plan.proofs.ask.check_ask.Statement.{statement}
+use Rattle.client_plan.proofs.ask.check_ask.Tie as tie
+
+abbrev state : tie.Start → List (Check Refusal)
+state s =
+    illForms (now (s .args .keys)) (now (s .args .key-lengths)) (now (s .args .value-lengths)) (s .args .count) (now (s .args .subtree)) (s .args .subtree-length) (s .args .header)
+
+abbrev time : tie.Start → List (Check Refusal)
+time s = tickChecks (s .args .header .clock .0) (s .args .tick .0)
+
+check-state-requires : tie.Need-check-state-requires
+check-state-requires c κs = search needs
+
+enum-known-r : tie.Need-enum-known-r
+enum-known-r c = search needs
+
+enum-told : tie.Need-enum-told
+enum-told c = search needs
+
+check-tick-requires : tie.Need-check-tick-requires
+check-tick-requires c κs = search needs
+
+returns : tie.Need-returns
+returns c =
+    let s = c .before .before .before .before .before .before in
+    past-refused verdict (state s) (time s) _ (sym (c .before .r .given .1) ∙ c .before .before .before .check-state .ensures)
+
+returns-2 : tie.Need-returns-2
+returns-2 c =
+    let s = c .before .before .before .before .before .before in
+    c .check-tick .ensures ∙ sym (ap verdict (past-accepted (state s) (time s) (sym (c .before .enum-told .given .1) ∙ c .before .before .before .check-state .ensures)))
+
+pub check-ask-spec : {M : Type 1} → statement M
+check-ask-spec =
+    tie.close
+    (tie.spec check-state-requires enum-known-r enum-told check-tick-requires returns returns-2)

@@ -1,0 +1,7 @@
+pub mod Answers
+pub mod Calls
+pub mod Effects
+pub mod Next
+pub mod Output
+pub mod Plans
+pub mod Refusals

@@ -1,0 +1,53 @@
+-- What a call is found to come to before it acts: its refusal, or what it is to do.
+use Prim.Native.Nat.{ℕ}
+use mathlib.Core.Bool.{false, cond}
+use mathlib.Core.List.{List}
+use mathlib.Core.Option.{Option, none, some}
+use Rattle.answers.specs.declared.answer.Kind.the-variants.{Applied, Stale, Outside, Synced, Live, Heard}
+use Rattle.answers.specs.declared.answer.Kind.{Kind}
+use Rattle.answers.specs.declared.refusal.Refusal.the-variants.{Full}
+use Rattle.answers.specs.declared.refusal.Refusal.{Refusal}
+use Rattle.base.specs.Bytes.{Bytes, isNil}
+use Rattle.client_state.specs.declared.Header.{Header}
+use Rattle.client_plan.specs.Effects.{Effect, sync, finish, hear, stale, outside, apply}
+use Rattle.client_plan.specs.declared.lookup.Search.the-variants.{Refuse as Stop, Row, Absent}
+use Rattle.client_plan.specs.declared.lookup.Search.{Search}
+use Rattle.client_plan.specs.declared.plan.Plan.the-variants.{Refuse, Note, Store}
+use Rattle.client_plan.specs.declared.plan.Plan.{Plan}
+use Rattle.names.specs.Numbers.{sequence}
+use Rattle.table.specs.Changes.{isOver}
+use Rattle.table.specs.Find.{placeOf, changeTo}
+use Rattle.table.specs.declared.change.Change.{Change}
+use Rattle.table.specs.declared.find.Found.the-variants.{At, Missing}
+use Rattle.table.specs.declared.find.Found.{Found}
+
+-- ---- a message
+abbrev pub planOf : Option Refusal → Plan → Plan
+planOf none plan = plan
+planOf (some r) plan = Refuse r
+
+-- a header with another number
+abbrev pub numbered : Header → ℕ → Header
+numbered h n = record { phase = h .phase; number = sequence n; clock = h .clock }
+
+-- by its effect, of a client's header and keys
+abbrev pub planBy : Header → List Bytes → Effect → Plan
+planBy h keys (sync key value) = Store (changeTo false (placeOf 0 key keys)) h (Synced (h .number))
+planBy h keys (finish n) = Note (record { phase = 1; number = sequence n; clock = h .clock }) (Live (sequence n))
+planBy h keys (hear t) = Note (record { phase = h .phase; number = h .number; clock = record { 0 = t } }) (Heard (h .number))
+planBy h keys stale = Note h (Stale (h .number))
+planBy h keys (outside n) = Note (numbered h n) (Outside (sequence n))
+planBy h keys (apply n key value) = Store (changeTo (isNil value) (placeOf 0 key keys)) (numbered h n) (Applied (sequence n))
+
+-- a change of a row that may be one too many
+abbrev pub rowPlan : Change → ℕ → Header → Kind → Plan
+rowPlan change n h kind = cond (isOver change n) (Refuse Full) (Store change h kind)
+
+-- ---- a lookup: the place of the row, or that there is none
+abbrev pub searchBy : Found → Search
+searchBy (At i) = Row i
+searchBy (Missing i) = Absent
+
+abbrev pub searchOf : Option Refusal → Found → Search
+searchOf none found = searchBy found
+searchOf (some r) found = Stop r

@@ -1,0 +1,2 @@
+pub mod IllFormed
+pub mod Views
