@@ -22,7 +22,7 @@ use Rattle.client_state.specs.IllFormed.{illForms, illFormsOf}
 use Rattle.client_state.specs.Views.{isWaiting, subtreeOf, view}
 use Rattle.client_state.specs.declared.Client.{Client}
 use Rattle.client_state.specs.declared.Header.{Header}
-use Rattle.client.proofs.AnswerLaws.{accepted-call, refusal-is}
+use Rattle.client_plan.proofs.AnswerLaws.{accepted-call, refusal-is}
 use Rattle.client.proofs.EffectLaws.{Taken, RowKnown, row-known, InPhase, InTime, Carries, noted, noted-view, noted-kind, noted-good, stored-view, stored-kind, stored-good}
 use Rattle.client_plan.proofs.MessageLaws.{snapshot-sound, published-sound}
 use Rattle.client_plan.specs.Answers.{effectKind, acceptedKind}
@@ -31,7 +31,7 @@ use Rattle.client_plan.specs.Effects.{Effect, sync, finish, hear, stale, outsid
 use Rattle.client_plan.specs.Next.{effectNext, acceptedNext}
 use Rattle.client_plan.specs.Output.{acceptedBytes}
 use Rattle.client_plan.specs.Plans.{planOf, planBy}
-use Rattle.client.specs.Promises.{Answered}
+use Rattle.client_plan.specs.Promises.{Answered}
 use Rattle.client_plan.specs.Refusals.{overfills, effectChecks, timeChecks, callChecks, refusalOf}
 use Rattle.client.specs.declared.Reply.{Reply}
 use Rattle.client_plan.specs.declared.plan.Plan.the-variants.{Refuse, Note, Store}
@@ -270,18 +270,18 @@ module _ (x : Option Refusal) (h : Header) (keys : List Bytes) (e : Effect) {pla
 
 -- ---- and what is then done
 module _ (c : Client) (x : Call) (msg : Bytes) (e : Effect) (m : Message c x msg e) (r : Reply) (h : Header) (k : Kind) (told : r .answer ≡ answer k 0) where
-  done : k ≡ effectKind (c .header .number .0) e → view (r .state) ≡ effectNext (view c) e → GoodClient (r .state) → Answered c x [] r []
+  done : k ≡ effectKind (c .header .number .0) e → view (r .state) ≡ effectNext (view c) e → GoodClient (r .state) → Answered c x [] (r .state) (r .answer) []
   unfolding put
   done kind-is view-is good =
-      accepted-call c x [] r [] (m .accepted) (told ∙ rw (m .kind, m .bytes, kind-is)) (view-is ∙ sym (m .next)) (rw (m .bytes)) (λ w. client-good (r .state) good)
+      accepted-call c x [] (r .state) [] (m .accepted) (told ∙ rw (m .kind, m .bytes, kind-is)) (view-is ∙ sym (m .next)) (rw (m .bytes)) (λ w. client-good (r .state) good)
 
-  pub message-noted : planBy (c .header) (tableKeys (c .table)) e ≡ Note h k → r .state ≡ noted c h k → Answered c x [] r []
+  pub message-noted : planBy (c .header) (tableKeys (c .table)) e ≡ Note h k → r .state ≡ noted c h k → Answered c x [] (r .state) (r .answer) []
   message-noted p state-is =
       done (noted-kind c h k e p) (ap view state-is ∙ noted-view c h k e p) (rw state-is (noted-good c h k e (m .taken) p))
 
   pub message-stored : (z : SizedTable (c .table)) (change : Change) → planBy (c .header) (tableKeys (c .table)) e ≡ Store change h k → {i j : ℕ} {keyCell valueCell : Bytes} → Altered change i j keyCell valueCell (c .table) (r .state .table) → r .state .subtree ≡ c .subtree
       → r .state .«subtree_length» ≡ c .«subtree_length» → r .state .header ≡ h
-      → take i keyCell ≡ frameAt 0 msg → i ≡ length (frameAt 0 msg) → take j valueCell ≡ frameAt 4 msg → j ≡ length (frameAt 4 msg) → Answered c x [] r []
+      → take i keyCell ≡ frameAt 0 msg → i ≡ length (frameAt 0 msg) → take j valueCell ≡ frameAt 4 msg → j ≡ length (frameAt 4 msg) → Answered c x [] (r .state) (r .answer) []
   message-stored z change p columns subtree-is long header-is key-is i-is value-is j-is =
       let s : subtreeOf (r .state) ≡ subtreeOf c = rw (subtree-is, long) in
       let key = frameAt 0 msg in

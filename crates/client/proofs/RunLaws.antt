@@ -13,7 +13,7 @@ use Rattle.base.specs.Checks.{Check}
 use Rattle.client_state.specs.IllFormed.{WellFormed}
 use Rattle.client_state.specs.Views.{Replica, view}
 use Rattle.client_state.specs.declared.Client.{Client}
-use Rattle.client.proofs.AnswerLaws.{well-refusal}
+use Rattle.client_plan.proofs.AnswerLaws.{well-refusal}
 use Rattle.client_plan.specs.Calls.{Call, snapshot, subscriber, writeIcanhaz, writeKvset, ask, lookup}
 use Rattle.client_plan.specs.Effects.{snapshotEffect, subscriberEffect}
 use Rattle.client_plan.specs.Refusals.{effectChecks, timeChecks, callChecks, refusalOf}
@@ -27,7 +27,7 @@ use Rattle.rows.specs.Rows.{hasKey}
 -- ---- every state that is reached is well-formed
 pub reached-well-formed : {c : Client} → Reached c → WellFormed c
 reached-well-formed (began subtree t r b) = b .well-formed
-reached-well-formed (called c x out r after p a) = a .well-formed (reached-well-formed p)
+reached-well-formed (called c x out c′ b out′ p a) = a .well-formed (reached-well-formed p)
 
 -- ---- what refuses with another reason
 -- by the word in front

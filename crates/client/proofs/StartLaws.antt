@@ -20,8 +20,7 @@ use Rattle.client_state.proofs.FormLaws.{client-good}
 use Rattle.client_state.specs.IllFormed.{WellFormed}
 use Rattle.client_state.specs.Views.{subtreeOf, view}
 use Rattle.client_state.specs.declared.Client.{Client}
-use Rattle.client.specs.Promises.{Began}
-use Rattle.client.specs.Start.{startChecks, startRefusal, startOf, startAnswer, waitingAt, waitingHeader}
+use Rattle.client.specs.Start.{startChecks, startRefusal, startOf, startAnswer, waitingAt, waitingHeader, Began}
 use Rattle.client.specs.declared.Reply.{Reply}
 use Rattle.names.proofs.KeyLaws.{subtree-empty}
 use Rattle.names.proofs.UnderLaws.{subtree-short}

@@ -3,6 +3,7 @@ use Prim.Native.Nat.{ℕ}
 use mathlib.Core.Bool.{false, not}
 use mathlib.Core.List.{List, [], _∷_}
 use mathlib.Core.Option.{Option, none, some}
+use mathlib.Core.Path.{_≡_}
 use lib.Dec.{leb}
 use Rattle.answers.specs.Answers.{answer}
 use Rattle.answers.specs.Refusals.{ifAccepted}
@@ -13,8 +14,10 @@ use Rattle.answers.specs.declared.refusal.Refusal.{Refusal}
 use Rattle.base.specs.Bytes.{Bytes}
 use Rattle.base.specs.Checks.Check.{when}
 use Rattle.base.specs.Checks.{Check, firstOf}
-use Rattle.client_state.specs.Views.{Replica}
+use Rattle.client_state.specs.IllFormed.{WellFormed}
+use Rattle.client_state.specs.Views.{Replica, view}
 use Rattle.client_state.specs.declared.Header.{Header}
+use Rattle.client.specs.declared.Reply.{Reply}
 use Rattle.names.specs.Keys.{isSubtree}
 use Rattle.names.specs.Numbers.{sequence, maxTick}
 
@@ -44,3 +47,9 @@ startAnswer subtree t = startAnswerBy (startRefusal subtree t)
 -- the header of a client that waits from a tick on
 abbrev pub waitingHeader : ℕ → Header
 waitingHeader t = record { phase = 0; number = record { 0 = 0 }; clock = record { 0 = t } }
+
+-- ---- what a start promises: with a subtree and a tick it gives the reply r
+pub record Began (subtree : Bytes) (t : ℕ) (r : Reply) : Type 0 where
+  pub answer : r .answer ≡ startAnswer subtree t
+  pub replica : view (r .state) ≡ startOf subtree t
+  pub well-formed : WellFormed (r .state)

@@ -13,11 +13,11 @@ use table::row;
 use table::text;
 ghost use mathlib.Core.List.{[]};
 ghost use Rattle.client_plan.specs.Calls.{snapshot as handed};
-ghost use Rattle.client.specs.Promises.{Answered};
+ghost use Rattle.client_plan.specs.Promises.{Answered};
 
 // The snapshot entry: a message of five frames, the identity in front of it taken off.
 pub fn snapshot(mut c: Client, msg: &[u8]) -> Reply
-    ensures { λ r. ⌜ Answered c (handed (now (msg .entry))) [] r [] ⌝ }
+    ensures { λ r. ⌜ Answered c (handed (now (msg .entry))) [] (r .state) (r .answer) [] ⌝ }
 {
     let count = c.table.count;
     let header = c.header;

@@ -20,8 +20,7 @@ ghost use lib.ListN.{length};
 ghost use Rattle.base.specs.Checks.{firstOf};
 ghost use Rattle.answers.specs.Refusals.{verdict};
 ghost use Rattle.client_state.specs.Views.{subtreeOf};
-ghost use Rattle.client.specs.Promises.{Began};
-ghost use Rattle.client.specs.Start.{startChecks, waitingHeader};
+ghost use Rattle.client.specs.Start.{startChecks, waitingHeader, Began};
 
 fn check_start(subtree: &[u8], tick: Tick) -> Verdict
     ensures { λ r. ⌜ r ≡ verdict (firstOf (startChecks (now (subtree .entry)) (tick .0))) ⌝ }

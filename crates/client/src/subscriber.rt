@@ -8,18 +8,17 @@ use client_state::subtree;
 use frames::read;
 use messages::HEAD;
 use messages::VALUE;
-use names::keys;
 use names::numbers::Tick;
 use table::change;
 use table::row;
 use table::text;
 ghost use mathlib.Core.List.{[]};
 ghost use Rattle.client_plan.specs.Calls.{subscriber as handed};
-ghost use Rattle.client.specs.Promises.{Answered};
+ghost use Rattle.client_plan.specs.Promises.{Answered};
 
 // The subscriber entry: a message of five frames, and the time, which only HUGZ uses.
 pub fn subscriber(mut c: Client, msg: &[u8], tick: Tick) -> Reply
-    ensures { λ r. ⌜ Answered c (handed (now (msg .entry)) (tick .0)) [] r [] ⌝ }
+    ensures { λ r. ⌜ Answered c (handed (now (msg .entry)) (tick .0)) [] (r .state) (r .answer) [] ⌝ }
 {
     let count = c.table.count;
     let header = c.header;

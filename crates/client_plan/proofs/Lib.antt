@@ -1,3 +1,4 @@
+pub mod AnswerLaws
 pub mod MessageLaws
 pub mod NextLaws
 pub mod PlanLaws

@@ -1,4 +1,4 @@
--- What a call is found to come to before it acts: its refusal, or what it is to do.
+-- What a message is found to come to before it is acted on: its refusal, or what is to be done.
 use Prim.Native.Nat.{ℕ}
 use mathlib.Core.Bool.{false, cond}
 use mathlib.Core.List.{List}
@@ -10,18 +10,13 @@ use Rattle.answers.specs.declared.refusal.Refusal.{Refusal}
 use Rattle.base.specs.Bytes.{Bytes, isNil}
 use Rattle.client_state.specs.declared.Header.{Header}
 use Rattle.client_plan.specs.Effects.{Effect, sync, finish, hear, stale, outside, apply}
-use Rattle.client_plan.specs.declared.lookup.Search.the-variants.{Refuse as Stop, Row, Absent}
-use Rattle.client_plan.specs.declared.lookup.Search.{Search}
 use Rattle.client_plan.specs.declared.plan.Plan.the-variants.{Refuse, Note, Store}
 use Rattle.client_plan.specs.declared.plan.Plan.{Plan}
 use Rattle.names.specs.Numbers.{sequence}
 use Rattle.table.specs.Changes.{isOver}
 use Rattle.table.specs.Find.{placeOf, changeTo}
 use Rattle.table.specs.declared.change.Change.{Change}
-use Rattle.table.specs.declared.find.Found.the-variants.{At, Missing}
-use Rattle.table.specs.declared.find.Found.{Found}
 
--- ---- a message
 abbrev pub planOf : Option Refusal → Plan → Plan
 planOf none plan = plan
 planOf (some r) plan = Refuse r
@@ -42,12 +37,3 @@ planBy h keys (apply n key value) = Store (changeTo (isNil value) (placeOf 0 key
 -- a change of a row that may be one too many
 abbrev pub rowPlan : Change → ℕ → Header → Kind → Plan
 rowPlan change n h kind = cond (isOver change n) (Refuse Full) (Store change h kind)
-
--- ---- a lookup: the place of the row, or that there is none
-abbrev pub searchBy : Found → Search
-searchBy (At i) = Row i
-searchBy (Missing i) = Absent
-
-abbrev pub searchOf : Option Refusal → Found → Search
-searchOf none found = searchBy found
-searchOf (some r) found = Stop r

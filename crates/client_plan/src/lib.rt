@@ -1,8 +1,5 @@
-// What a call on a client comes to: what it refuses, what an accepted one is to do, writes and answers. Functions that only read decide it; who acts
-// on it is the crate client. They are lent the columns of a state, never the state.
-pub mod ask;
-pub mod lookup;
+// What a call on a client comes to: what it refuses, what an accepted one is to do, writes and answers, as definitions; and what a message comes to, as
+// functions that only read. They are lent the columns of a state, never the state; who acts on what they decide is the crate client.
 pub mod plan;
 pub mod snapshot;
 pub mod subscriber;
-pub mod write;

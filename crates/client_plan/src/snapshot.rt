@@ -7,7 +7,6 @@ use answers::refusal::Verdict;
 use client_state::Header;
 use client_state::LIVE;
 use client_state::WAITING;
-use client_state::subtree;
 use client_state::test;
 use frames::read;
 use messages::HEAD;
@@ -94,7 +93,7 @@ pub fn plan_snapshot<'a>(
         header,
     ) {
         Verdict::Refuse(r) => Plan::Refuse(r),
-        Verdict::Accept => match ports::snapshot::check_snapshot(msg, subtree) {
+        Verdict::Accept => match client_ports::snapshot::check_snapshot(msg, subtree) {
             Verdict::Refuse(r) => Plan::Refuse(r),
             Verdict::Accept => plan_message(keys, key_lengths, count, header, msg),
         },

@@ -6,7 +6,6 @@ use answers::refusal::Refusal;
 use answers::refusal::Verdict;
 use client_state::Header;
 use client_state::WAITING;
-use client_state::subtree;
 use client_state::test;
 use frames::read;
 use messages::HEAD;
@@ -145,7 +144,7 @@ pub fn plan_subscriber<'a>(
         header,
     ) {
         Verdict::Refuse(r) => Plan::Refuse(r),
-        Verdict::Accept => match ports::subscriber::check_subscriber(msg) {
+        Verdict::Accept => match client_ports::subscriber::check_subscriber(msg) {
             Verdict::Refuse(r) => Plan::Refuse(r),
             Verdict::Accept => {
                 plan_published(keys, key_lengths, count, subtree, header, msg, tick)

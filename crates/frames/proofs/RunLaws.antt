@@ -6,7 +6,7 @@ use mathlib.Core.List.{List, [], _∷_, _++_, append-assoc, append-nil}
 use mathlib.Core.Option.{Option, none, some, Option·map, map-eq-some-iff}
 use mathlib.Core.Path.{_≡_, refl, sym, ap, _∙_}
 use lib.Dec.{leb}
-use lib.ListN.{length, take, drop, length-append, length-drop, take-append-drop}
+use lib.ListN.{length, take, drop, length-append, length-take, length-drop, take-append-drop}
 use lib.Seq.{length-take-le, take-append-seam, drop-append-seam, take-append-le, drop-drop, take-add, drop-at}
 use borrow.Author.Tests.{le-leb}
 use Rattle.base.proofs.CutLaws.{tail-part, tail-length}
@@ -173,6 +173,11 @@ module _ (b : Bytes) (bs : List Bytes) (rest : Bytes) (h : Sized (b ∷ bs)) whe
   pub first-written : messageIn (encode b bs ++ rest) ≡ encode b bs
   unfolding messageIn
   first-written = rw end-written (take-append-seam (encode b bs) rest)
+
+-- a message is no longer than what begins with it
+pub message-within : (s : Bytes) → length (messageIn s) ≤ length s
+unfolding messageIn
+message-within s = simp length-take (omega arith)
 
 -- ---- a run is its first message and what is behind it; the bound on the number of messages does not matter
 end-least : (s : Bytes) (n : ℕ) → endIn s ≡ some n → 2 ≤ n

@@ -9,7 +9,7 @@ ghost use Rattle.answers.specs.Refusals.{verdict};
 ghost use Rattle.ports.specs.Ports.{framed};
 
 // Whether the framing of a message is sound, and whether it has so many frames.
-pub(crate) fn check_framing(msg: &[u8], count: usize) -> Verdict
+pub fn check_framing(msg: &[u8], count: usize) -> Verdict
     ensures { λ r. ⌜ r ≡ verdict (firstOf (framed count (now (msg .entry)))) ⌝ }
 {
     let Framing::Frames(n) = read::count_frames(msg) else {

@@ -1,9 +1,5 @@
-// The ports that take messages: what each refuses by the frames alone, in the order of the refusals, and the two value entries.
-mod framing;
-pub mod icanhaz;
-pub mod kvset;
-pub mod snapshot;
-pub mod subscriber;
+// What the ports of both ends share: the framing of a message, what an update may hold, the tick of a call; and the two value entries.
+pub mod framing;
 pub mod time;
 pub mod update;
 pub mod value;

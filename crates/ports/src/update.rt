@@ -10,7 +10,7 @@ ghost use Rattle.answers.specs.Refusals.{verdict};
 ghost use Rattle.ports.specs.Ports.{payloadChecks, updateChecks};
 
 // UUID, properties and value of an update.
-pub(crate) fn check_payload(uuid: &[u8], properties: &[u8], value: &[u8]) -> Verdict
+pub fn check_payload(uuid: &[u8], properties: &[u8], value: &[u8]) -> Verdict
     ensures { λ r. ⌜ r ≡ verdict (firstOf (payloadChecks (now (uuid .entry)) (now (properties .entry)) (now (value .entry)))) ⌝ }
 {
     if !lengths::is_uuid(uuid) {

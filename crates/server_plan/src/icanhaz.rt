@@ -78,7 +78,7 @@ pub fn check_request<'a>(
         header,
     ) {
         Verdict::Refuse(r) => Verdict::Refuse(r),
-        Verdict::Accept => match ports::icanhaz::check_icanhaz(msg) {
+        Verdict::Accept => match server_ports::icanhaz::check_icanhaz(msg) {
             Verdict::Refuse(r) => Verdict::Refuse(r),
             Verdict::Accept => check_room(keys, key_lengths, value_lengths, count, msg, room),
         },

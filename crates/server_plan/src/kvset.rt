@@ -97,7 +97,7 @@ pub fn plan_kvset<'a>(
         header,
     ) {
         Verdict::Refuse(r) => Plan::Refuse(r),
-        Verdict::Accept => match ports::kvset::check_kvset(msg) {
+        Verdict::Accept => match server_ports::kvset::check_kvset(msg) {
             Verdict::Refuse(r) => Plan::Refuse(r),
             Verdict::Accept => match time::check_tick(last, tick) {
                 Verdict::Refuse(r) => Plan::Refuse(r),

@@ -1,18 +1,18 @@
 // Messages judged at every port. The client's subtree is /clip/7/.
-use crate::text;
 use answers::refusal;
 use answers::refusal::Verdict;
 use base::bytes;
+use client_ports::snapshot;
+use client_ports::subscriber;
 use frames::read;
-use frames::write;
 use messages::PROPERTIES;
-use ports::icanhaz;
-use ports::kvset;
-use ports::snapshot;
-use ports::subscriber;
 use ports::value;
 use properties::read::Lifetime;
 use properties::read::Properties;
+use script::message;
+use script::text;
+use server_ports::icanhaz;
+use server_ports::kvset;
 
 // A line for each line.
 pub(crate) fn judge_lines(s: &[u8]) {
@@ -49,30 +49,8 @@ fn judge_bytes(line: &[u8]) {
 fn judge_frames(line: &[u8]) {
     let mut msg = [0; 2048];
     let bar = text::place(line, b'|');
-    let n = write_frames(bytes::behind(line, bar + 1), &mut msg);
+    let n = message::write_frames(bytes::behind(line, bar + 1), &mut msg);
     judge(bytes::front(line, bar), bytes::front(&msg, n));
-}
-
-// Writes the frames that a text has between bars.
-fn write_frames(s: &[u8], out: &mut [u8]) -> usize {
-    let mut i = 0;
-    let mut at = 0;
-    loop {
-        let rest = &s[i..];
-        let bar = text::place(rest, b'|');
-        let more = bar < rest.len();
-        at = write_frame(bytes::front(rest, bar), out, at, more);
-        if bar == rest.len() {
-            return at;
-        }
-        i = i + bar + 1;
-    }
-}
-
-fn write_frame(s: &[u8], out: &mut [u8], at: usize, more: bool) -> usize {
-    let mut body = [0; 512];
-    let n = text::decode(s, &mut body);
-    write::put_frame(out, at, more, bytes::front(&body, n))
 }
 
 // What the value entries and the ports make of a message: the number of the refusal, or 0.

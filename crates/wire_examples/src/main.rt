@@ -6,7 +6,6 @@
 //   = label|bytes of a message
 //   + label|frame|frame|..      which are written as a message
 mod judge;
-mod text;
 
 use base::bytes;
 use names::numbers::Sequence;

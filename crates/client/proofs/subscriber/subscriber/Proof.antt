@@ -10,7 +10,7 @@ use Rattle.answers.specs.declared.refusal.Refusal.{Refusal}
 use Rattle.base.specs.Checks.{Check, firstOf}
 use Rattle.client_state.specs.IllFormed.{illFormsOf}
 use Rattle.client_state.specs.Views.{subtreeOf}
-use Rattle.client.proofs.AnswerLaws.{refused-call}
+use Rattle.client_plan.proofs.AnswerLaws.{refused-call}
 use Rattle.client.proofs.EffectLaws.{RowKnown}
 use Rattle.client.proofs.EntryLaws.{subscriberTable, subscriber-refusal, Message, subscriber-message, message-row, key-fits, value-fits, subscriber-planned, plan-refused, plan-noted, plan-stored, message-noted, message-stored}
 use Rattle.client_plan.specs.Calls.{subscriber}
@@ -78,7 +78,7 @@ returns : tie.Need-returns
 returns c =
     let s = c .before .before .before .before .before .before .before .before .before .before .before .before .before .before in
     let p = c .before .before .before .before in
-    refused-call (s .args .t1) (subscriber (now (s .args .msg)) (s .args .tick .0)) _ _ _ (sym (subscriber-refusal (s .args .t1) (sized s) (now (s .args .msg)) (s .args .tick .0)) ∙ plan-refused (firstOf (checks s)) (s .args .t1 .header) (tableKeys (s .args .t1 .table)) (effect s) (planned p) (c .before .before .r .given .1)) refl (c .without-output .ensures)
+    refused-call (s .args .t1) (subscriber (now (s .args .msg)) (s .args .tick .0)) _ _ (sym (subscriber-refusal (s .args .t1) (sized s) (now (s .args .msg)) (s .args .tick .0)) ∙ plan-refused (firstOf (checks s)) (s .args .t1 .header) (tableKeys (s .args .t1 .table)) (effect s) (planned p) (c .before .before .r .given .1)) refl (c .without-output .ensures)
 
 enum-known-after : tie.Need-enum-known-after
 enum-known-after c = search needs

@@ -1,0 +1,40 @@
+-- `client_ports::subscriber::check_subscriber` meets its contract: the framing, the count of frames, and then the frames. Assumes nothing.
+use mathlib.Core.Path.{sym, _∙_}
+use borrow.Author.Needs.{needs}
+use denote.Ref.{now}
+use Rattle.answers.proofs.VerdictLaws.{past-refused}
+use Rattle.answers.specs.Refusals.{verdict}
+use Rattle.messages.specs.Fields.{fieldsOf}
+use Rattle.ports.proofs.PortLaws.{by-fields}
+use Rattle.ports.specs.Ports.{framed, publishedChecks}
+use Rattle.client_ports.proofs.subscriber.check_subscriber.Statement.{statement}
+use Rattle.client_ports.proofs.subscriber.check_subscriber.Tie as tie
+
+check-framing-requires : tie.Need-check-framing-requires
+check-framing-requires c κs = search needs
+
+enum-known-r : tie.Need-enum-known-r
+enum-known-r c = search needs
+
+enum-told : tie.Need-enum-told
+enum-told c = search needs
+
+check-published-frames-requires : tie.Need-check-published-frames-requires
+check-published-frames-requires c κs = search needs
+
+returns : tie.Need-returns
+returns c = past-refused verdict (framed 5 (now (c .before .before .before .before .before .args .msg))) (publishedChecks (fieldsOf (now (c .before .before .before .before .before .args .msg)))) _ (sym (c .before .r .given .1) ∙ c .before .before .before .check-framing .ensures)
+
+returns-2 : tie.Need-returns-2
+returns-2 c = c .check-published-frames .ensures ∙ by-fields _ (sym (c .before .enum-told .given .1) ∙ c .before .before .before .check-framing .ensures) publishedChecks
+
+pub check-subscriber-spec : {M : Type 1} → statement M
+check-subscriber-spec =
+    tie.close
+    (tie.spec
+    check-framing-requires
+    enum-known-r
+    enum-told
+    check-published-frames-requires
+    returns
+    returns-2)

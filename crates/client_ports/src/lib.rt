@@ -1,0 +1,3 @@
+// The ports of a client, for snapshots and for what is published: what each refuses by the frames alone.
+pub mod snapshot;
+pub mod subscriber;
