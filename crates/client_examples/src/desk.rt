@@ -1,0 +1,119 @@
+// The calls on one desk. Each prints a line with its answer.
+use answers::answer::Answer;
+use client::snapshot;
+use client::start;
+use client::subscriber;
+use client_queries::ask;
+use client_queries::lookup;
+use client_queries::write;
+use client_state::Client;
+use frames::read;
+use messages::identity;
+use names::numbers::Tick;
+
+// The front of a line that speaks of a desk.
+fn name(front: &[u8], desk: &[u8]) {
+    print::text(front);
+    print::text(desk);
+}
+
+// A desk that waits for the snapshot of a subtree.
+pub(crate) fn begin(desk: &[u8], subtree: &[u8], at: u64) -> Client {
+    name(b"desk ", desk);
+    name(b" starts with subtree '", subtree);
+    print::number(b"' at tick ", at);
+    let r = start::start(subtree, Tick(at));
+    print::answer(r.answer);
+    r.state
+}
+
+// A message at the subscriber entry.
+pub(crate) fn follow(c: Client, desk: &[u8], msg: &[u8], at: u64) -> Client {
+    name(b"  at desk ", desk);
+    let r = subscriber::subscriber(c, msg, Tick(at));
+    print::answer(r.answer);
+    r.state
+}
+
+// A message at the snapshot entry.
+pub(crate) fn take(c: Client, desk: &[u8], msg: &[u8]) -> Client {
+    name(b"  at desk ", desk);
+    let r = snapshot::snapshot(c, msg);
+    print::answer(r.answer);
+    r.state
+}
+
+// A snapshot, which the router hands over message by message, without the identity.
+pub(crate) fn take_all(start: Client, desk: &[u8], run: &[u8]) -> Client {
+    let mut c = start;
+    let mut at = 0;
+    while at < run.len() {
+        let msg = read::first_message(&run[at..]);
+        if msg.len() == 0 {
+            return c;
+        }
+        c = take(c, desk, identity::without_identity(msg));
+        at += msg.len();
+    }
+    c
+}
+
+// The rest of a line, with the answer of a call that writes. It gives how many bytes were written.
+fn wrote(a: Answer) -> usize {
+    print::answer(a);
+    a.written
+}
+
+// ICANHAZ, into so much of an output. It gives the length of what is written.
+pub(crate) fn request(c: Client, desk: &[u8], room: usize, out: &mut [u8]) -> usize {
+    name(b"desk ", desk);
+    print::text(b" writes ICANHAZ");
+    if out.len() < room {
+        return wrote(write::write_icanhaz(c, out));
+    }
+    wrote(write::write_icanhaz(c, &mut out[..room]))
+}
+
+// KVSET, into so much of an output. It gives the length of what is written.
+pub(crate) fn update<'a>(
+    c: Client,
+    desk: &'a [u8],
+    key: &'a [u8],
+    uuid: &'a [u8],
+    properties: &'a [u8],
+    value: &'a [u8],
+    room: usize,
+    out: &mut [u8],
+) -> usize {
+    name(b"desk ", desk);
+    name(b" writes KVSET ", key);
+    name(b"=", value);
+    if out.len() < room {
+        return wrote(write::write_kvset(c, key, uuid, properties, value, out));
+    }
+    wrote(write::write_kvset(c, key, uuid, properties, value, &mut out[..room]))
+}
+
+// The value of a key, into so much of an output.
+fn looked_up(c: Client, key: &[u8], room: usize, out: &mut [u8]) -> Answer {
+    if out.len() < room {
+        return lookup::lookup(c, key, out);
+    }
+    lookup::lookup(c, key, &mut out[..room])
+}
+
+// The value of a key, into so much of an output, which is then told.
+pub(crate) fn look_up(c: Client, desk: &[u8], key: &[u8], room: usize, out: &mut [u8]) {
+    name(b"desk ", desk);
+    name(b" looks up ", key);
+    print::answer(looked_up(c, key, room, out));
+    name(b"  the output holds ", out);
+    print::text(b"\n");
+}
+
+// Whether the server is gone.
+pub(crate) fn ask(c: Client, desk: &[u8], at: u64) {
+    name(b"desk ", desk);
+    print::number(b" asks at tick ", at);
+    print::answer(ask::ask(c, Tick(at)));
+}
