@@ -27,6 +27,7 @@ use Rattle.client.proofs.EffectLaws.{Taken, RowKnown, row-known, InPhas
 use Rattle.client_plan.proofs.MessageLaws.{snapshot-sound, published-sound}
 use Rattle.client_plan.specs.Answers.{effectKind, acceptedKind}
 use Rattle.client_plan.specs.Calls.{Call, snapshot, subscriber}
+use Rattle.client_plan.specs.Entries.{received, entryEffect, entryChecks}
 use Rattle.client_plan.specs.Effects.{Effect, sync, finish, hear, stale, outside, apply, snapshotEffect, subscriberEffect}
 use Rattle.client_plan.specs.Next.{effectNext, acceptedNext}
 use Rattle.client_plan.specs.Output.{acceptedBytes}
@@ -36,6 +37,8 @@ use Rattle.client_plan.specs.Refusals.{overfills, effectChecks, timeChecks, cal
 use Rattle.client.specs.declared.Reply.{Reply}
 use Rattle.client_plan.specs.declared.plan.Plan.the-variants.{Refuse, Note, Store}
 use Rattle.client_plan.specs.declared.plan.Plan.{Plan}
+use Rattle.client_plan.specs.declared.receive.Entry.the-variants.{Snapshot, Subscriber}
+use Rattle.client_plan.specs.declared.receive.Entry.{Entry}
 use Rattle.frames.specs.Messages.{bodyAt}
 use Rattle.messages.specs.Fields.{Fields, frameAt, fieldsOf}
 use Rattle.names.proofs.UnderLaws.{key-short}
@@ -72,26 +75,22 @@ module _ (c : Client) (z : SizedTable (c .table)) (g : GoodClient c) (e : Effect
       overfills-same (heldIn c) (λ (k : Bytes). hasKey k (rowsOf (tableKeys (c .table)) (tableValues (c .table)))) (c .table .count) (length (rowsOf (tableKeys (c .table)) (tableValues (c .table))))
       (λ k. sym (held-found k (tableKeys (c .table)) (tableValues (c .table)) (as-long z (g .rows .count)) (g .rows .rise))) (sym (rows-long z (g .rows .count))) e
 
--- ---- the checks behind that of the state, as they are made over the columns
-abbrev pub snapshotTable : Client → Bytes → List (Check Refusal)
-snapshotTable c msg =
-    snapshotPort (subtreeOf c) msg ++ effectChecks (not (isWaiting (c .header .phase))) (heldIn c) (c .table .count) (snapshotEffect (fieldsOf msg))
+-- ---- the checks behind that of the state, as they are made over the columns, and what the message does
+abbrev pub entryTable : Client → Entry → Bytes → ℕ → List (Check Refusal)
+entryTable c e msg t = entryChecks e (c .header) (subtreeOf c) (heldIn c) (c .table .count) msg t
 
-abbrev pub subscriberTable : Client → Bytes → ℕ → List (Check Refusal)
-subscriberTable c msg t =
-    subscriberPort msg
-    ++ (timeChecks (c .header .clock .0) (fieldsOf msg) t
-    ++ effectChecks (isWaiting (c .header .phase)) (heldIn c) (c .table .count) (subscriberEffect (c .header .number .0) (subtreeOf c) (fieldsOf msg) t))
+abbrev pub effectAt : Client → Entry → Bytes → ℕ → Effect
+effectAt c e msg t = entryEffect e (c .header .number .0) (subtreeOf c) (fieldsOf msg) t
 
 module _ (c : Client) (z : SizedTable (c .table)) (msg : Bytes) where
-  pub snapshot-refusal : firstOf (illFormsOf c ++ snapshotTable c msg) ≡ refusalOf c (snapshot msg)
+  snapshot-refusal : firstOf (illFormsOf c ++ entryTable c Snapshot msg 0) ≡ refusalOf c (snapshot msg)
   unfolding callChecks view
-  snapshot-refusal = refusal-is c (snapshot msg) (snapshotTable c msg) (λ w. rw (as-rows c z (good-client c w) (snapshotEffect (fieldsOf msg))))
+  snapshot-refusal = refusal-is c (snapshot msg) (entryTable c Snapshot msg 0) (λ w. rw (as-rows c z (good-client c w) (snapshotEffect (fieldsOf msg))))
 
-  pub subscriber-refusal : (t : ℕ) → firstOf (illFormsOf c ++ subscriberTable c msg t) ≡ refusalOf c (subscriber msg t)
+  subscriber-refusal : (t : ℕ) → firstOf (illFormsOf c ++ entryTable c Subscriber msg t) ≡ refusalOf c (subscriber msg t)
   unfolding callChecks view
   subscriber-refusal t =
-      refusal-is c (subscriber msg t) (subscriberTable c msg t) (λ w. rw (as-rows c z (good-client c w) (subscriberEffect (c .header .number .0) (subtreeOf c) (fieldsOf msg) t), not-not (isWaiting (c .header .phase))))
+      refusal-is c (subscriber msg t) (entryTable c Subscriber msg t) (λ w. rw (as-rows c z (good-client c w) (subscriberEffect (c .header .number .0) (subtreeOf c) (fieldsOf msg) t), not-not (isWaiting (c .header .phase))))
     where
       not-not : (b : Bool) → not (not b) ≡ b
       not-not true = refl
@@ -159,12 +158,12 @@ module _ (f : Fields) where
     published-carries = published (λ (e : Effect). Carries e (f .head) (f .value)) tt tt tt (refl, refl)
 
 module _ (c : Client) (z : SizedTable (c .table)) (msg : Bytes) where
-  pub snapshot-message : firstOf (illFormsOf c ++ snapshotTable c msg) ≡ none → Message c (snapshot msg) msg (snapshotEffect (fieldsOf msg))
+  snapshot-message : firstOf (illFormsOf c ++ entryTable c Snapshot msg 0) ≡ none → Message c (snapshot msg) msg (snapshotEffect (fieldsOf msg))
   unfolding acceptedNext acceptedBytes view
   snapshot-message e =
       let f = fieldsOf msg in
       let behind = effectChecks (not (isWaiting (c .header .phase))) (heldIn c) (c .table .count) (snapshotEffect (fieldsOf msg)) in
-      let a = both-passed (illFormsOf c) (snapshotTable c msg) e in
+      let a = both-passed (illFormsOf c) (entryTable c Snapshot msg 0) e in
       let b = both-passed (snapshotPort (subtreeOf c) msg) behind (a .1) in
       let d = both-passed (framed 5 msg) (snapshotChecks (subtreeOf c) f) (b .0) in
       record {
@@ -183,14 +182,14 @@ module _ (c : Client) (z : SizedTable (c .table)) (msg : Bytes) where
         frames = port-frame 5 msg (snapshotChecks (subtreeOf c) f) (b .0);
       }
 
-  pub subscriber-message : (t : ℕ) → firstOf (illFormsOf c ++ subscriberTable c msg t) ≡ none
+  subscriber-message : (t : ℕ) → firstOf (illFormsOf c ++ entryTable c Subscriber msg t) ≡ none
       → Message c (subscriber msg t) msg (subscriberEffect (c .header .number .0) (subtreeOf c) (fieldsOf msg) t)
   unfolding acceptedNext acceptedBytes view
   subscriber-message t e =
       let f = fieldsOf msg in
       let effect = subscriberEffect (c .header .number .0) (subtreeOf c) (fieldsOf msg) t in
       let behind = effectChecks (isWaiting (c .header .phase)) (heldIn c) (c .table .count) effect in
-      let a = both-passed (illFormsOf c) (subscriberTable c msg t) e in
+      let a = both-passed (illFormsOf c) (entryTable c Subscriber msg t) e in
       let b = both-passed (subscriberPort msg) (timeChecks (c .header .clock .0) f t ++ behind) (a .1) in
       let d = both-passed (framed 5 msg) (publishedChecks f) (b .0) in
       let g = both-passed (timeChecks (c .header .clock .0) f t) behind (b .1) in
@@ -222,17 +221,22 @@ module _ (c : Client) (x : Call) (msg : Bytes) (e : Effect) (m : Message c x msg
   pub value-fits : {value : Bytes} → value ≡ bodyAt 4 msg → length value ≤ 256
   value-fits e = rw (e, m .frames 4 (omega arith)) (message-row .value-short)
 
--- ---- the plans of the entries, made with the part of the subtree's array that counts
-module _ (c : Client) (b msg : Bytes) (b-is : b ≡ subtreeOf c) {plan : Plan} where
-  pub snapshot-planned : plan ≡ planOf (firstOf (illForms (c .table .keys) (c .table .«key_lengths») (c .table .«value_lengths») (c .table .count) b (c .«subtree_length») (c .header) ++ (snapshotPort b msg ++ effectChecks (not (isWaiting (c .header .phase))) (heldIn c) (c .table .count) (snapshotEffect (fieldsOf msg))))) (planBy (c .header) (tableKeys (c .table)) (snapshotEffect (fieldsOf msg)))
-      → plan ≡ planOf (firstOf (illFormsOf c ++ snapshotTable c msg)) (planBy (c .header) (tableKeys (c .table)) (snapshotEffect (fieldsOf msg)))
-  unfolding illFormsOf
-  snapshot-planned e = rw (← b-is) e
+-- ---- either entry
+module _ (c : Client) (z : SizedTable (c .table)) (msg : Bytes) (t : ℕ) where
+  pub entry-refusal : (e : Entry) → firstOf (illFormsOf c ++ entryTable c e msg t) ≡ refusalOf c (received e msg t)
+  entry-refusal Snapshot = snapshot-refusal c z msg
+  entry-refusal Subscriber = subscriber-refusal c z msg t
 
-  pub subscriber-planned : (t : ℕ) → plan ≡ planOf (firstOf (illForms (c .table .keys) (c .table .«key_lengths») (c .table .«value_lengths») (c .table .count) b (c .«subtree_length») (c .header) ++ (subscriberPort msg ++ (timeChecks (c .header .clock .0) (fieldsOf msg) t ++ effectChecks (isWaiting (c .header .phase)) (heldIn c) (c .table .count) (subscriberEffect (c .header .number .0) b (fieldsOf msg) t))))) (planBy (c .header) (tableKeys (c .table)) (subscriberEffect (c .header .number .0) b (fieldsOf msg) t))
-      → plan ≡ planOf (firstOf (illFormsOf c ++ subscriberTable c msg t)) (planBy (c .header) (tableKeys (c .table)) (subscriberEffect (c .header .number .0) (subtreeOf c) (fieldsOf msg) t))
-  unfolding illFormsOf
-  subscriber-planned t e = rw (← b-is) e
+  pub entry-message : (e : Entry) → firstOf (illFormsOf c ++ entryTable c e msg t) ≡ none → Message c (received e msg t) msg (effectAt c e msg t)
+  entry-message Snapshot h = snapshot-message c z msg h
+  entry-message Subscriber h = subscriber-message c z msg t h
+
+-- the plan, made with the part of the subtree's array that counts
+pub entry-planned : (c : Client) (b msg : Bytes) (t : ℕ) (e : Entry) → b ≡ subtreeOf c → {plan : Plan}
+    → plan ≡ planOf (firstOf (illForms (c .table .keys) (c .table .«key_lengths») (c .table .«value_lengths») (c .table .count) b (c .«subtree_length») (c .header) ++ entryChecks e (c .header) b (heldIn c) (c .table .count) msg t)) (planBy (c .header) (tableKeys (c .table)) (entryEffect e (c .header .number .0) b (fieldsOf msg) t))
+    → plan ≡ planOf (firstOf (illFormsOf c ++ entryTable c e msg t)) (planBy (c .header) (tableKeys (c .table)) (effectAt c e msg t))
+unfolding illFormsOf
+entry-planned c b msg t e b-is p = rw (← b-is) p
 
 -- ---- what a plan says of the checks and of the effect
 module _ (x : Option Refusal) (h : Header) (keys : List Bytes) (e : Effect) {plan : Plan} (is : plan ≡ planOf x (planBy h keys e)) where

@@ -3,6 +3,7 @@
 use answers::answer::Answer;
 use client_state::Client;
 
+mod receive;
 pub mod snapshot;
 pub mod start;
 pub mod subscriber;

@@ -1,75 +1,16 @@
 // The snapshot entry: KTHXBAI, or else KVSYNC.
 use crate::Reply;
-use answers::answer;
-use answers::answer::Kind;
-use client_plan::plan::Plan;
+use crate::receive;
+use client_plan::receive::Entry;
 use client_state::Client;
-use client_state::subtree;
-use frames::read;
-use messages::HEAD;
-use messages::VALUE;
-use table::change;
-use table::row;
-use table::text;
+use names::numbers::Tick;
 ghost use mathlib.Core.List.{[]};
 ghost use Rattle.client_plan.specs.Calls.{snapshot as handed};
 ghost use Rattle.client_plan.specs.Promises.{Answered};
 
 // The snapshot entry: a message of five frames, the identity in front of it taken off.
-pub fn snapshot(mut c: Client, msg: &[u8]) -> Reply
+pub fn snapshot(c: Client, msg: &[u8]) -> Reply
     ensures { λ r. ⌜ Answered c (handed (now (msg .entry))) [] (r .state) (r .answer) [] ⌝ }
 {
-    let count = c.table.count;
-    let header = c.header;
-    let number = header.number;
-    let length = c.subtree_length;
-    match client_plan::snapshot::plan_snapshot(
-        &c.table.keys,
-        &c.table.key_lengths,
-        &c.table.value_lengths,
-        count,
-        subtree::subtree_in(&c.subtree, length),
-        length,
-        header,
-        msg,
-    ) {
-        Plan::Refuse(r) => {
-            return Reply {
-                state: c,
-                answer: answer::without_output(Kind::Refused(r, number)),
-            };
-        }
-        Plan::Note(after, kind) => {
-            c.header = after;
-            return Reply {
-                state: c,
-                answer: answer::without_output(kind),
-            };
-        }
-        Plan::Store(change, after, kind) => {
-            let key = read::body(msg, HEAD);
-            let value = read::body(msg, VALUE);
-            let fresh = row::fresh_row(key, value);
-            change::change_keys(&mut c.table.keys, change, count, &fresh.key);
-            change::change_values(&mut c.table.values, change, count, &fresh.value);
-            change::change_numbers(
-                &mut c.table.key_lengths,
-                change,
-                count,
-                text::count_of(key.len()),
-            );
-            change::change_numbers(
-                &mut c.table.value_lengths,
-                change,
-                count,
-                text::count_of(value.len()),
-            );
-            c.table.count = change::count_after(change, count);
-            c.header = after;
-            Reply {
-                state: c,
-                answer: answer::without_output(kind),
-            }
-        }
-    }
+    receive::receive(c, Entry::Snapshot, msg, Tick(0))
 }

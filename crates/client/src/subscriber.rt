@@ -1,77 +1,16 @@
 // The subscriber entry: HUGZ, or else KVPUB.
 use crate::Reply;
-use answers::answer;
-use answers::answer::Kind;
-use client_plan::plan::Plan;
+use crate::receive;
+use client_plan::receive::Entry;
 use client_state::Client;
-use client_state::subtree;
-use frames::read;
-use messages::HEAD;
-use messages::VALUE;
 use names::numbers::Tick;
-use table::change;
-use table::row;
-use table::text;
 ghost use mathlib.Core.List.{[]};
 ghost use Rattle.client_plan.specs.Calls.{subscriber as handed};
 ghost use Rattle.client_plan.specs.Promises.{Answered};
 
 // The subscriber entry: a message of five frames, and the time, which only HUGZ uses.
-pub fn subscriber(mut c: Client, msg: &[u8], tick: Tick) -> Reply
+pub fn subscriber(c: Client, msg: &[u8], tick: Tick) -> Reply
     ensures { λ r. ⌜ Answered c (handed (now (msg .entry)) (tick .0)) [] (r .state) (r .answer) [] ⌝ }
 {
-    let count = c.table.count;
-    let header = c.header;
-    let number = header.number;
-    let length = c.subtree_length;
-    match client_plan::subscriber::plan_subscriber(
-        &c.table.keys,
-        &c.table.key_lengths,
-        &c.table.value_lengths,
-        count,
-        subtree::subtree_in(&c.subtree, length),
-        length,
-        header,
-        msg,
-        tick,
-    ) {
-        Plan::Refuse(r) => {
-            return Reply {
-                state: c,
-                answer: answer::without_output(Kind::Refused(r, number)),
-            };
-        }
-        Plan::Note(after, kind) => {
-            c.header = after;
-            return Reply {
-                state: c,
-                answer: answer::without_output(kind),
-            };
-        }
-        Plan::Store(change, after, kind) => {
-            let key = read::body(msg, HEAD);
-            let value = read::body(msg, VALUE);
-            let fresh = row::fresh_row(key, value);
-            change::change_keys(&mut c.table.keys, change, count, &fresh.key);
-            change::change_values(&mut c.table.values, change, count, &fresh.value);
-            change::change_numbers(
-                &mut c.table.key_lengths,
-                change,
-                count,
-                text::count_of(key.len()),
-            );
-            change::change_numbers(
-                &mut c.table.value_lengths,
-                change,
-                count,
-                text::count_of(value.len()),
-            );
-            c.table.count = change::count_after(change, count);
-            c.header = after;
-            Reply {
-                state: c,
-                answer: answer::without_output(kind),
-            }
-        }
-    }
+    receive::receive(c, Entry::Subscriber, msg, tick)
 }

@@ -6,7 +6,6 @@ use answers::refusal::Refusal;
 use answers::refusal::Verdict;
 use client_state::Header;
 use client_state::WAITING;
-use client_state::test;
 use frames::read;
 use messages::HEAD;
 use messages::SEQUENCE;
@@ -21,19 +20,20 @@ ghost use mathlib.Core.Path.{_≡_};
 ghost use Prim.Native.Nat.{_≤_};
 ghost use Rattle.base.specs.Bytes.{Bytes};
 ghost use Rattle.base.specs.Checks.{firstOf};
-ghost use Rattle.client_state.specs.IllFormed.{illForms};
 ghost use Rattle.client_state.specs.Views.{isWaiting};
 ghost use Rattle.frames.specs.Messages.{bodyAt};
 ghost use Rattle.messages.specs.Fields.{fieldsOf};
 ghost use Rattle.names.specs.Numbers.{isSequence};
 ghost use Rattle.ports.specs.Bodies.{bodiesOf};
-ghost use Rattle.ports.specs.Ports.{subscriberPort, tickChecks};
+ghost use Rattle.ports.specs.Ports.{tickChecks};
 ghost use Rattle.rows.specs.Rows.{rising};
 ghost use Rattle.table.specs.Columns.{texts, lengthsFit};
 ghost use Rattle.table.specs.Find.{placeOf, isFound};
 ghost use Rattle.client_plan.specs.Effects.{hear, updateEffect, subscriberEffect};
+ghost use Rattle.client_plan.specs.Entries.{entryChecks};
 ghost use Rattle.client_plan.specs.Plans.{planOf, planBy};
 ghost use Rattle.client_plan.specs.Refusals.{effectChecks, timeChecks};
+ghost use Rattle.client_plan.specs.declared.receive.Entry.the-variants.{Subscriber};
 
 // HUGZ: its tick is looked at before the phase.
 fn plan_hugz(header: Header, tick: Tick) -> Plan
@@ -120,35 +120,21 @@ fn plan_published<'a>(
     plan_kvpub(keys, key_lengths, count, subtree, header, msg)
 }
 
-// The checks of a message in their order, and what it does where it passes them.
-pub fn plan_subscriber<'a>(
+// The checks of a message behind that of the state, in their order, and what it does where it passes them.
+pub(crate) fn plan_subscriber<'a>(
     keys: &'a [u8; 6400],
     key_lengths: &'a [u64; 64],
-    value_lengths: &'a [u64; 64],
     count: usize,
     subtree: &'a [u8],
-    subtree_length: u64,
     header: Header,
     msg: &'a [u8],
     tick: Tick,
 ) -> Plan
-    ensures { λ r. ⌜ r ≡ planOf (firstOf (illForms (now (keys .entry)) (now («key_lengths» .entry)) (now («value_lengths» .entry)) count (now (subtree .entry)) «subtree_length» header ++ (subscriberPort (now (msg .entry)) ++ (timeChecks (header .clock .0) (fieldsOf (now (msg .entry))) (tick .0) ++ effectChecks (isWaiting (header .phase)) (λ (k : Bytes). isFound (placeOf 0 k (texts 96 count (now («key_lengths» .entry)) (now (keys .entry))))) count (subscriberEffect (header .number .0) (now (subtree .entry)) (fieldsOf (now (msg .entry))) (tick .0)))))) (planBy header (texts 96 count (now («key_lengths» .entry)) (now (keys .entry))) (subscriberEffect (header .number .0) (now (subtree .entry)) (fieldsOf (now (msg .entry))) (tick .0))) ⌝ }
+    requires { ⌜ (count ≤ 64) × ((lengthsFit 96 count (now «key_lengths») ≡ true) × (rising (texts 96 count (now «key_lengths») (now keys)) ≡ true)) ⌝ }
+    ensures { λ r. ⌜ r ≡ planOf (firstOf (entryChecks Subscriber header (now (subtree .entry)) (λ (k : Bytes). isFound (placeOf 0 k (texts 96 count (now («key_lengths» .entry)) (now (keys .entry))))) count (now (msg .entry)) (tick .0))) (planBy header (texts 96 count (now («key_lengths» .entry)) (now (keys .entry))) (subscriberEffect (header .number .0) (now (subtree .entry)) (fieldsOf (now (msg .entry))) (tick .0))) ⌝ }
 {
-    match test::check_state(
-        keys,
-        key_lengths,
-        value_lengths,
-        count,
-        subtree,
-        subtree_length,
-        header,
-    ) {
+    match client_ports::subscriber::check_subscriber(msg) {
         Verdict::Refuse(r) => Plan::Refuse(r),
-        Verdict::Accept => match client_ports::subscriber::check_subscriber(msg) {
-            Verdict::Refuse(r) => Plan::Refuse(r),
-            Verdict::Accept => {
-                plan_published(keys, key_lengths, count, subtree, header, msg, tick)
-            }
-        },
+        Verdict::Accept => plan_published(keys, key_lengths, count, subtree, header, msg, tick),
     }
 }

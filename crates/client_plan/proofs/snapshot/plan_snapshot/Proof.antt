@@ -1,4 +1,4 @@
--- `client_plan::snapshot::plan_snapshot` meets its contract: the state, the frames, and then what the message does. Assumes nothing.
+-- `client_plan::snapshot::plan_snapshot` meets its contract: the frames, and then what the message does. Assumes nothing.
 use mathlib.Core.List.{List, _++_}
 use mathlib.Core.Path.{_≡_, sym, ap, _∙_}
 use denote.Ref.{now}
@@ -7,8 +7,6 @@ use Rattle.answers.specs.Refusals.{verdict}
 use Rattle.answers.specs.declared.refusal.Refusal.{Refusal}
 use Rattle.answers.specs.declared.refusal.Verdict.the-variants.{Accept}
 use Rattle.base.specs.Checks.{Check, firstOf}
-use Rattle.client_state.proofs.FormLaws.{good-columns}
-use Rattle.client_state.specs.IllFormed.{illForms}
 use mathlib.Core.Bool.{not}
 use mathlib.Core.Option.{Option}
 use Rattle.base.specs.Bytes.{Bytes}
@@ -28,10 +26,6 @@ use Rattle.client_plan.proofs.snapshot.plan_snapshot.Statement.{stateme
 use Rattle.client_plan.proofs.snapshot.plan_snapshot.Tie as tie
 
 -- ---- the tables of checks
-abbrev state : tie.Start → List (Check Refusal)
-state s =
-    illForms (now (s .args .keys)) (now (s .args .key-lengths)) (now (s .args .value-lengths)) (s .args .count) (now (s .args .subtree)) (s .args .subtree-length) (s .args .header)
-
 abbrev frames : tie.Start → List (Check Refusal)
 frames s = snapshotPort (now (s .args .subtree)) (now (s .args .msg))
 
@@ -52,14 +46,8 @@ abbrev plan : tie.Start → Option Refusal → Plan
 plan s x = planFor s (fields s) x
 
 -- ---- what passed
-good-state : (c : tie.After-enum-told) → Accept ≡ verdict (firstOf (state (c .before .before .before .before .before)))
-good-state c = sym (c .enum-told .given .1) ∙ c .before .before .check-state .ensures
-
-good-frames : (c : tie.After-enum-told2) → Accept ≡ verdict (firstOf (frames (c .before .before .before .before .before .before .before .before)))
-good-frames c = sym (c .enum-told2 .given .1) ∙ c .before .before .check-snapshot .ensures
-
-check-state-requires : tie.Need-check-state-requires
-check-state-requires c κs = search needs
+good-frames : (c : tie.After-enum-told) → Accept ≡ verdict (firstOf (frames (c .before .before .before .before .before)))
+good-frames c = sym (c .enum-told .given .1) ∙ c .before .before .check-snapshot .ensures
 
 enum-known-r : tie.Need-enum-known-r
 enum-known-r c = search needs
@@ -70,49 +58,31 @@ enum-told c = search needs
 check-snapshot-requires : tie.Need-check-snapshot-requires
 check-snapshot-requires c κs = search needs
 
-enum-known-r-2 : tie.Need-enum-known-r-2
-enum-known-r-2 c = search needs
-
-enum-told-2 : tie.Need-enum-told-2
-enum-told-2 c = search needs
-
 plan-message-requires : tie.Need-plan-message-requires
 plan-message-requires c κs =
-    let t = c .before .before .before in
-    let s = c .before .before .before .before .before .before .before .before in
-    let g = good-columns (now (s .args .keys)) (now (s .args .key-lengths)) (now (s .args .value-lengths)) (s .args .count) (now (s .args .subtree)) (s .args .subtree-length) (s .args .header) (accepted (firstOf (state s)) (good-state t)) in
-    (g .rows .count, (g .rows .key-lengths, (g .rows .rise, snapshot-sequence (now (s .args .subtree)) (now (s .args .msg)) (accepted (firstOf (frames s)) (good-frames c)))))
+    let s = c .before .before .before .before .before in
+    let columns = s .pre in
+    (columns .0, (columns .1 .0, (columns .1 .1, snapshot-sequence (now (s .args .subtree)) (now (s .args .msg)) (accepted (firstOf (frames s)) (good-frames c)))))
 
 returns : tie.Need-returns
 returns c =
     let s = c .before .before .before .before .before .before in
-    past-refused (plan s) (state s) (frames s ++ effect s (fields s)) _ (sym (c .before .r .given .1) ∙ c .before .before .before .check-state .ensures)
+    past-refused (plan s) (frames s) (effect s (fields s)) _ (sym (c .before .r .given .1) ∙ c .before .before .before .check-snapshot .ensures)
 
 returns-2 : tie.Need-returns-2
 returns-2 c =
-    let s = c .before .before .before .before .before .before .before .before .before in
-    past-refused (plan s) (frames s) (effect s (fields s)) _ (sym (c .before .r2 .given .1) ∙ c .before .before .before .check-snapshot .ensures)
-    ∙ sym (ap (plan s) (past-accepted (state s) (frames s ++ effect s (fields s)) (good-state (c .before .before .before .before))))
-
-returns-3 : tie.Need-returns-3
-returns-3 c =
-    let s = c .before .before .before .before .before .before .before .before .before in
+    let s = c .before .before .before .before .before .before in
     c .plan-message .ensures
     ∙ ap (λ (f : Fields). planFor s f (firstOf (effect s f))) (port-fields (now (s .args .msg)) (snapshotChecks (now (s .args .subtree)) (fields s)) (accepted (firstOf (frames s)) (good-frames (c .before))))
     ∙ sym (ap (plan s) (past-accepted (frames s) (effect s (fields s)) (good-frames (c .before))))
-    ∙ sym (ap (plan s) (past-accepted (state s) (frames s ++ effect s (fields s)) (good-state (c .before .before .before .before))))
 
 pub plan-snapshot-spec : {M : Type 1} → statement M
 plan-snapshot-spec =
     tie.close
     (tie.spec
-    check-state-requires
+    check-snapshot-requires
     enum-known-r
     enum-told
-    check-snapshot-requires
-    enum-known-r-2
-    enum-told-2
     plan-message-requires
     returns
-    returns-2
-    returns-3)
+    returns-2)

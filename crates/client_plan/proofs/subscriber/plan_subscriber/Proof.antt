@@ -1,4 +1,4 @@
--- `client_plan::subscriber::plan_subscriber` meets its contract: the state, the frames, and then what the message does. Assumes nothing.
+-- `client_plan::subscriber::plan_subscriber` meets its contract: the frames, and then what the message does. Assumes nothing.
 use mathlib.Core.List.{List, _++_}
 use mathlib.Core.Path.{_≡_, sym, ap, _∙_}
 use denote.Ref.{now}
@@ -7,8 +7,6 @@ use Rattle.answers.specs.Refusals.{verdict}
 use Rattle.answers.specs.declared.refusal.Refusal.{Refusal}
 use Rattle.answers.specs.declared.refusal.Verdict.the-variants.{Accept}
 use Rattle.base.specs.Checks.{Check, firstOf}
-use Rattle.client_state.proofs.FormLaws.{good-columns}
-use Rattle.client_state.specs.IllFormed.{illForms}
 use mathlib.Core.Option.{Option}
 use Rattle.base.specs.Bytes.{Bytes}
 use Rattle.client_state.specs.Views.{isWaiting}
@@ -27,10 +25,6 @@ use Rattle.client_plan.proofs.subscriber.plan_subscriber.Statement.{sta
 use Rattle.client_plan.proofs.subscriber.plan_subscriber.Tie as tie
 
 -- ---- the tables of checks
-abbrev state : tie.Start → List (Check Refusal)
-state s =
-    illForms (now (s .args .keys)) (now (s .args .key-lengths)) (now (s .args .value-lengths)) (s .args .count) (now (s .args .subtree)) (s .args .subtree-length) (s .args .header)
-
 abbrev frames : tie.Start → List (Check Refusal)
 frames s = subscriberPort (now (s .args .msg))
 
@@ -56,14 +50,8 @@ abbrev plan : tie.Start → Option Refusal → Plan
 plan s x = planFor s (fields s) x
 
 -- ---- what passed
-good-state : (c : tie.After-enum-told) → Accept ≡ verdict (firstOf (state (c .before .before .before .before .before)))
-good-state c = sym (c .enum-told .given .1) ∙ c .before .before .check-state .ensures
-
-good-frames : (c : tie.After-enum-told2) → Accept ≡ verdict (firstOf (frames (c .before .before .before .before .before .before .before .before)))
-good-frames c = sym (c .enum-told2 .given .1) ∙ c .before .before .check-subscriber .ensures
-
-check-state-requires : tie.Need-check-state-requires
-check-state-requires c κs = search needs
+good-frames : (c : tie.After-enum-told) → Accept ≡ verdict (firstOf (frames (c .before .before .before .before .before)))
+good-frames c = sym (c .enum-told .given .1) ∙ c .before .before .check-subscriber .ensures
 
 enum-known-r : tie.Need-enum-known-r
 enum-known-r c = search needs
@@ -74,49 +62,31 @@ enum-told c = search needs
 check-subscriber-requires : tie.Need-check-subscriber-requires
 check-subscriber-requires c κs = search needs
 
-enum-known-r-2 : tie.Need-enum-known-r-2
-enum-known-r-2 c = search needs
-
-enum-told-2 : tie.Need-enum-told-2
-enum-told-2 c = search needs
-
 plan-published-requires : tie.Need-plan-published-requires
 plan-published-requires c κs =
-    let t = c .before .before .before in
-    let s = c .before .before .before .before .before .before .before .before in
-    let g = good-columns (now (s .args .keys)) (now (s .args .key-lengths)) (now (s .args .value-lengths)) (s .args .count) (now (s .args .subtree)) (s .args .subtree-length) (s .args .header) (accepted (firstOf (state s)) (good-state t)) in
-    (g .rows .count, (g .rows .key-lengths, (g .rows .rise, published-sequence (now (s .args .msg)) (accepted (firstOf (frames s)) (good-frames c)))))
+    let s = c .before .before .before .before .before in
+    let columns = s .pre in
+    (columns .0, (columns .1 .0, (columns .1 .1, published-sequence (now (s .args .msg)) (accepted (firstOf (frames s)) (good-frames c)))))
 
 returns : tie.Need-returns
 returns c =
     let s = c .before .before .before .before .before .before in
-    past-refused (plan s) (state s) (frames s ++ effect s (fields s)) _ (sym (c .before .r .given .1) ∙ c .before .before .before .check-state .ensures)
+    past-refused (plan s) (frames s) (effect s (fields s)) _ (sym (c .before .r .given .1) ∙ c .before .before .before .check-subscriber .ensures)
 
 returns-2 : tie.Need-returns-2
 returns-2 c =
-    let s = c .before .before .before .before .before .before .before .before .before in
-    past-refused (plan s) (frames s) (effect s (fields s)) _ (sym (c .before .r2 .given .1) ∙ c .before .before .before .check-subscriber .ensures)
-    ∙ sym (ap (plan s) (past-accepted (state s) (frames s ++ effect s (fields s)) (good-state (c .before .before .before .before))))
-
-returns-3 : tie.Need-returns-3
-returns-3 c =
-    let s = c .before .before .before .before .before .before .before .before .before in
+    let s = c .before .before .before .before .before .before in
     c .plan-published .ensures
     ∙ ap (λ (f : Fields). planFor s f (firstOf (effect s f))) (port-fields (now (s .args .msg)) (publishedChecks (fields s)) (accepted (firstOf (frames s)) (good-frames (c .before))))
     ∙ sym (ap (plan s) (past-accepted (frames s) (effect s (fields s)) (good-frames (c .before))))
-    ∙ sym (ap (plan s) (past-accepted (state s) (frames s ++ effect s (fields s)) (good-state (c .before .before .before .before))))
 
 pub plan-subscriber-spec : {M : Type 1} → statement M
 plan-subscriber-spec =
     tie.close
     (tie.spec
-    check-state-requires
+    check-subscriber-requires
     enum-known-r
     enum-told
-    check-subscriber-requires
-    enum-known-r-2
-    enum-told-2
     plan-published-requires
     returns
-    returns-2
-    returns-3)
+    returns-2)

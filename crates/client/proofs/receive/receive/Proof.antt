@@ -1,4 +1,4 @@
--- `client::subscriber::subscriber` meets its contract: what was planned is noted in the header and stored in every column. Assumes nothing.
+-- `client::receive::receive` meets its contract: what was planned is noted in the header and stored in every column. Assumes nothing.
 use Prim.Native.Nat.{ℕ}
 use native.Mathlib.Omega.{arith}
 use mathlib.Core.List.{List, _++_}
@@ -9,46 +9,45 @@ use denote.Ref.{now}
 use Rattle.answers.specs.declared.refusal.Refusal.{Refusal}
 use Rattle.base.specs.Checks.{Check, firstOf}
 use Rattle.client_state.specs.IllFormed.{illFormsOf}
-use Rattle.client_state.specs.Views.{subtreeOf}
 use Rattle.client_plan.proofs.AnswerLaws.{refused-call}
 use Rattle.client.proofs.EffectLaws.{RowKnown}
-use Rattle.client.proofs.EntryLaws.{subscriberTable, subscriber-refusal, Message, subscriber-message, message-row, key-fits, value-fits, subscriber-planned, plan-refused, plan-noted, plan-stored, message-noted, message-stored}
-use Rattle.client_plan.specs.Calls.{subscriber}
-use Rattle.client_plan.specs.Effects.{Effect, subscriberEffect}
+use Rattle.client.proofs.EntryLaws.{entryTable, effectAt, entry-refusal, Message, entry-message, message-row, key-fits, value-fits, entry-planned, plan-refused, plan-noted, plan-stored, message-noted, message-stored}
+use Rattle.client_plan.specs.Effects.{Effect}
+use Rattle.client_plan.specs.Entries.{received}
 use Rattle.client_plan.specs.Plans.{planOf, planBy}
 use Rattle.client_plan.specs.declared.plan.Plan.the-variants.{Store}
 use Rattle.client_plan.specs.declared.plan.Plan.{Plan}
-use Rattle.messages.specs.Fields.{frameAt, fieldsOf}
+use Rattle.messages.specs.Fields.{frameAt}
 use Rattle.table.specs.Columns.{tableKeys, SizedTable}
 use borrow.Author.Needs.{needs}
-use Rattle.client.proofs.subscriber.subscriber.Statement.{statement}
-use Rattle.client.proofs.subscriber.subscriber.Tie as tie
+use Rattle.client.proofs.receive.receive.Statement.{statement}
+use Rattle.client.proofs.receive.receive.Tie as tie
 
 -- how long the columns are
 sized : (s : tie.Start) → SizedTable (s .args .t1 .table)
 sized s = record { values = search needs; key-lengths = search needs; value-lengths = search needs }
 
 -- where the function begins, and what its call is and does
-abbrev begin : tie.After-plan-subscriber → tie.Start
+abbrev begin : tie.After-plan-received → tie.Start
 begin c = c .before .before .before .before .before .before .before .before .before .before
 
 abbrev checks : tie.Start → List (Check Refusal)
-checks s = illFormsOf (s .args .t1) ++ subscriberTable (s .args .t1) (now (s .args .msg)) (s .args .tick .0)
+checks s = illFormsOf (s .args .t1) ++ entryTable (s .args .t1) (s .args .entry) (now (s .args .msg)) (s .args .tick .0)
 
 abbrev effect : tie.Start → Effect
-effect s = subscriberEffect (s .args .t1 .header .number .0) (subtreeOf (s .args .t1)) (fieldsOf (now (s .args .msg))) (s .args .tick .0)
+effect s = effectAt (s .args .t1) (s .args .entry) (now (s .args .msg)) (s .args .tick .0)
 
 abbrev planFor : tie.Start → Plan
 planFor s = planBy (s .args .t1 .header) (tableKeys (s .args .t1 .table)) (effect s)
 
 -- ---- the plan
-planned : (c : tie.After-plan-subscriber) → c .plan-subscriber .result ≡ planOf (firstOf (checks (begin c))) (planFor (begin c))
+planned : (c : tie.After-plan-received) → c .plan-received .result ≡ planOf (firstOf (checks (begin c))) (planFor (begin c))
 planned c =
     let s = begin c in
-    subscriber-planned (s .args .t1) _ (now (s .args .msg)) (c .before .subtree-in .ensures) (s .args .tick .0) (c .plan-subscriber .ensures)
+    entry-planned (s .args .t1) _ (now (s .args .msg)) (s .args .tick .0) (s .args .entry) (c .before .subtree-in .ensures) (c .plan-received .ensures)
 
-message : (s : tie.Start) → firstOf (checks s) ≡ none → Message (s .args .t1) (subscriber (now (s .args .msg)) (s .args .tick .0)) (now (s .args .msg)) (effect s)
-message s e = subscriber-message (s .args .t1) (sized s) (now (s .args .msg)) (s .args .tick .0) e
+message : (s : tie.Start) → firstOf (checks s) ≡ none → Message (s .args .t1) (received (s .args .entry) (now (s .args .msg)) (s .args .tick .0)) (now (s .args .msg)) (effect s)
+message s e = entry-message (s .args .t1) (sized s) (now (s .args .msg)) (s .args .tick .0) (s .args .entry) e
 
 -- a message that stores a row
 stores : (c : tie.After-change) → (firstOf (checks (begin (c .before .before))) ≡ none) × (planFor (begin (c .before .before)) ≡ Store (c .change .given .0 .0) (c .change .given .0 .1 .0) (c .change .given .0 .1 .1 .0))
@@ -60,13 +59,13 @@ stores c =
 row : (c : tie.After-change) → RowKnown (begin (c .before .before) .args .t1) (c .change .given .0 .0) (frameAt 0 (now (begin (c .before .before) .args .msg))) (frameAt 4 (now (begin (c .before .before) .args .msg)))
 row c =
     let s = begin (c .before .before) in
-    message-row (s .args .t1) (subscriber (now (s .args .msg)) (s .args .tick .0)) (now (s .args .msg)) (effect s) (message s (stores c .0)) (sized s) _ _ _ (stores c .1)
+    message-row (s .args .t1) (received (s .args .entry) (now (s .args .msg)) (s .args .tick .0)) (now (s .args .msg)) (effect s) (message s (stores c .0)) (sized s) _ _ _ (stores c .1)
 
 subtree-in-requires : tie.Need-subtree-in-requires
 subtree-in-requires c κs = search needs
 
-plan-subscriber-requires : tie.Need-plan-subscriber-requires
-plan-subscriber-requires c κs = search needs
+plan-received-requires : tie.Need-plan-received-requires
+plan-received-requires c κs = search needs
 
 enum-known-r : tie.Need-enum-known-r
 enum-known-r c = search needs
@@ -78,7 +77,7 @@ returns : tie.Need-returns
 returns c =
     let s = c .before .before .before .before .before .before .before .before .before .before .before .before .before .before in
     let p = c .before .before .before .before in
-    refused-call (s .args .t1) (subscriber (now (s .args .msg)) (s .args .tick .0)) _ _ (sym (subscriber-refusal (s .args .t1) (sized s) (now (s .args .msg)) (s .args .tick .0)) ∙ plan-refused (firstOf (checks s)) (s .args .t1 .header) (tableKeys (s .args .t1 .table)) (effect s) (planned p) (c .before .before .r .given .1)) refl (c .without-output .ensures)
+    refused-call (s .args .t1) (received (s .args .entry) (now (s .args .msg)) (s .args .tick .0)) _ _ (sym (entry-refusal (s .args .t1) (sized s) (now (s .args .msg)) (s .args .tick .0) (s .args .entry)) ∙ plan-refused (firstOf (checks s)) (s .args .t1 .header) (tableKeys (s .args .t1 .table)) (effect s) (planned p) (c .before .before .r .given .1)) refl (c .without-output .ensures)
 
 enum-known-after : tie.Need-enum-known-after
 enum-known-after c = search needs
@@ -91,7 +90,7 @@ returns-2 c =
     let s = c .before .before .before .before .before .before .before .before .before .before .before .before .before .before in
     let p = c .before .before .before .before in
     let n = plan-noted (firstOf (checks s)) (s .args .t1 .header) (tableKeys (s .args .t1 .table)) (effect s) (planned p) (c .before .before .after .given .1) in
-    message-noted (s .args .t1) (subscriber (now (s .args .msg)) (s .args .tick .0)) (now (s .args .msg)) (effect s) (message s (n .0)) _ _ _ (c .without-output2 .ensures) (n .1) refl
+    message-noted (s .args .t1) (received (s .args .entry) (now (s .args .msg)) (s .args .tick .0)) (now (s .args .msg)) (effect s) (message s (n .0)) _ _ _ (c .without-output2 .ensures) (n .1) refl
 
 enum-known-change : tie.Need-enum-known-change
 enum-known-change c = search needs
@@ -107,7 +106,7 @@ fresh-row-requires c κs =
     let s = c .before .before .before .before .before .before .before .before .before .before .before .before .before .before .before in
     let g = c .before .before .before in
     let m = message s (stores g .0) in
-    (key-fits (s .args .t1) (subscriber (now (s .args .msg)) (s .args .tick .0)) (now (s .args .msg)) (effect s) m (sized s) _ _ _ (stores g .1) (c .before .body .ensures), value-fits (s .args .t1) (subscriber (now (s .args .msg)) (s .args .tick .0)) (now (s .args .msg)) (effect s) m (sized s) _ _ _ (stores g .1) (c .body2 .ensures))
+    (key-fits (s .args .t1) (received (s .args .entry) (now (s .args .msg)) (s .args .tick .0)) (now (s .args .msg)) (effect s) m (sized s) _ _ _ (stores g .1) (c .before .body .ensures), value-fits (s .args .t1) (received (s .args .entry) (now (s .args .msg)) (s .args .tick .0)) (now (s .args .msg)) (effect s) m (sized s) _ _ _ (stores g .1) (c .body2 .ensures))
 
 change-keys-requires : tie.Need-change-keys-requires
 change-keys-requires c κs = row (c .before .before .before .before .before .before .before) .fits
@@ -143,7 +142,7 @@ returns-3 c =
     let fresh = c .before .before .before .before .before .before .before .before .before .before .before .before .before .before .before .before .before .fresh-row in
     let i = c .before .before .before .before .before .before .before .count-of in
     let j = c .before .before .before .before .count-of2 in
-    message-stored (s .args .t1) (subscriber (now (s .args .msg)) (s .args .tick .0)) (now (s .args .msg)) (effect s) m _ _ _ (c .without-output3 .ensures) (sized s) _ (stores g .1)
+    message-stored (s .args .t1) (received (s .args .entry) (now (s .args .msg)) (s .args .tick .0)) (now (s .args .msg)) (effect s) m _ _ _ (c .without-output3 .ensures) (sized s) _ (stores g .1)
     (record {
       of-keys = c .before .before .before .before .before .before .before .before .before .before .before .before .before .change-keys .ensures;
       of-values = c .before .before .before .before .before .before .before .before .before .change-values .ensures;
@@ -155,12 +154,12 @@ returns-3 c =
     (ap (λ (n : ℕ). take n (fresh .result .key)) (i .ensures) ∙ fresh .ensures .0 ∙ key-is) (i .ensures ∙ ap length key-is)
     (ap (λ (n : ℕ). take n (fresh .result .value)) (j .ensures) ∙ fresh .ensures .1 ∙ value-is) (j .ensures ∙ ap length value-is)
 
-pub subscriber-spec : {M : Type 1} → statement M
-subscriber-spec =
+pub receive-spec : {M : Type 1} → statement M
+receive-spec =
     tie.close
     (tie.spec
     subtree-in-requires
-    plan-subscriber-requires
+    plan-received-requires
     enum-known-r
     without-output-requires
     returns
