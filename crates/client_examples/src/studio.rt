@@ -12,7 +12,7 @@ use names::numbers::Tick;
 use server::icanhaz;
 use server::kvset;
 use server::start;
-use server::tick;
+use server_clock::tick;
 use server_state::Server;
 
 pub(crate) struct Studio {

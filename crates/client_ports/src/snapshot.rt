@@ -1,13 +1,12 @@
 // The client's port for snapshots: KTHXBAI, or else KVSYNC.
+use crate::bare::check_bare;
 use answers::refusal::Refusal;
 use answers::refusal::Verdict;
 use base::bytes;
 use frames::read;
 use messages::FRAMES;
 use messages::HEAD;
-use messages::PROPERTIES;
 use messages::SEQUENCE;
-use messages::UUID;
 use messages::VALUE;
 use names::keys;
 use names::lengths;
@@ -19,7 +18,20 @@ ghost use mathlib.Core.Path.{_≡_};
 ghost use Rattle.base.specs.Checks.{firstOf};
 ghost use Rattle.answers.specs.Refusals.{verdict};
 ghost use Rattle.ports.specs.Bodies.{bodiesOf};
-ghost use Rattle.ports.specs.Ports.{kvsyncChecks, kthxbaiChecks, snapshotChecks, snapshotPort};
+ghost use Rattle.ports.specs.Ports.{heldChecks, kvsyncChecks, kthxbaiChecks, snapshotChecks, snapshotPort};
+
+// The value of a row that is held.
+fn check_held(value: &[u8]) -> Verdict
+    ensures { λ r. ⌜ r ≡ verdict (firstOf (heldChecks (now (value .entry)))) ⌝ }
+{
+    if value.len() == 0 {
+        return Verdict::Refuse(Refusal::BadValue);
+    }
+    if !lengths::is_value(value) {
+        return Verdict::Refuse(Refusal::BadValue);
+    }
+    Verdict::Accept
+}
 
 // The frames of a KVSYNC in the snapshot of a subtree.
 fn check_kvsync_frames(msg: &[u8], subtree: &[u8]) -> Verdict
@@ -35,20 +47,10 @@ fn check_kvsync_frames(msg: &[u8], subtree: &[u8]) -> Verdict
     let Numbered::By(_) = numbers::read_sequence(read::body(msg, SEQUENCE)) else {
         return Verdict::Refuse(Refusal::BadSequence);
     };
-    if read::body(msg, UUID).len() != 0 {
-        return Verdict::Refuse(Refusal::BadUuid);
+    match check_bare(msg) {
+        Verdict::Refuse(r) => Verdict::Refuse(r),
+        Verdict::Accept => check_held(read::body(msg, VALUE)),
     }
-    if read::body(msg, PROPERTIES).len() != 0 {
-        return Verdict::Refuse(Refusal::BadProperties);
-    }
-    let value = read::body(msg, VALUE);
-    if value.len() == 0 {
-        return Verdict::Refuse(Refusal::BadValue);
-    }
-    if !lengths::is_value(value) {
-        return Verdict::Refuse(Refusal::BadValue);
-    }
-    Verdict::Accept
 }
 
 // The frames of a KTHXBAI at the end of the snapshot of a subtree.
@@ -64,13 +66,7 @@ fn check_kthxbai_frames(msg: &[u8], subtree: &[u8]) -> Verdict
     if !numbers::is_kept(n) {
         return Verdict::Refuse(Refusal::BadSequence);
     }
-    if read::body(msg, UUID).len() != 0 {
-        return Verdict::Refuse(Refusal::BadUuid);
-    }
-    if read::body(msg, PROPERTIES).len() != 0 {
-        return Verdict::Refuse(Refusal::BadProperties);
-    }
-    Verdict::Accept
+    check_bare(msg)
 }
 
 // The frames of a KTHXBAI, or else of a KVSYNC.

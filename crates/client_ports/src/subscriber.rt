@@ -1,4 +1,5 @@
 // The client's port for what is published: HUGZ, or else KVPUB.
+use crate::bare::check_bare;
 use answers::refusal::Refusal;
 use answers::refusal::Verdict;
 use frames::read;
@@ -50,16 +51,15 @@ fn check_hugz_frames(msg: &[u8]) -> Verdict
     if n.0 != 0 {
         return Verdict::Refuse(Refusal::BadSequence);
     }
-    if read::body(msg, UUID).len() != 0 {
-        return Verdict::Refuse(Refusal::BadUuid);
+    match check_bare(msg) {
+        Verdict::Refuse(r) => Verdict::Refuse(r),
+        Verdict::Accept => {
+            if read::body(msg, VALUE).len() != 0 {
+                return Verdict::Refuse(Refusal::BadValue);
+            }
+            Verdict::Accept
+        }
     }
-    if read::body(msg, PROPERTIES).len() != 0 {
-        return Verdict::Refuse(Refusal::BadProperties);
-    }
-    if read::body(msg, VALUE).len() != 0 {
-        return Verdict::Refuse(Refusal::BadValue);
-    }
-    Verdict::Accept
 }
 
 // The frames of a HUGZ, or else of a KVPUB.

@@ -59,17 +59,26 @@ kvpubChecks f =
     ∷ payloadChecks (f .uuid) (f .properties) (f .value)
 
 -- ---- frames of messages without UUID and properties
+abbrev pub bareChecks : Bytes → Bytes → List (Check Refusal)
+bareChecks uuid properties =
+    when (not (isNil uuid)) BadUuid
+    ∷ when (not (isNil properties)) BadProperties
+    ∷ []
+
+-- the value of a row
+abbrev pub heldChecks : Bytes → List (Check Refusal)
+heldChecks value =
+    when (isNil value) BadValue
+    ∷ when (not (isValue value)) BadValue
+    ∷ []
+
 -- the row of a snapshot of a subtree; its sequence is ignored, but not its length
 abbrev pub kvsyncChecks : Bytes → Fields → List (Check Refusal)
 kvsyncChecks subtree f =
     when (not (isKey (f .head))) BadKey
     ∷ when (not (under subtree (f .head))) BadSubtree
     ∷ when (not (isSequence (f .sequence))) BadSequence
-    ∷ when (not (isNil (f .uuid))) BadUuid
-    ∷ when (not (isNil (f .properties))) BadProperties
-    ∷ when (isNil (f .value)) BadValue
-    ∷ when (not (isValue (f .value))) BadValue
-    ∷ []
+    ∷ (bareChecks (f .uuid) (f .properties) ++ heldChecks (f .value))
 
 -- the end of a snapshot of a subtree
 abbrev pub kthxbaiChecks : Bytes → Fields → List (Check Refusal)
@@ -77,18 +86,13 @@ kthxbaiChecks subtree f =
     when (not (same subtree (f .value))) BadSubtree
     ∷ when (not (isSequence (f .sequence))) BadSequence
     ∷ when (not (leb (number (f .sequence)) maxSequence)) BadSequence
-    ∷ when (not (isNil (f .uuid))) BadUuid
-    ∷ when (not (isNil (f .properties))) BadProperties
-    ∷ []
+    ∷ bareChecks (f .uuid) (f .properties)
 
 abbrev pub hugzChecks : Fields → List (Check Refusal)
 hugzChecks f =
     when (not (isSequence (f .sequence))) BadSequence
     ∷ when (not (eqb (number (f .sequence)) 0)) BadSequence
-    ∷ when (not (isNil (f .uuid))) BadUuid
-    ∷ when (not (isNil (f .properties))) BadProperties
-    ∷ when (not (isNil (f .value))) BadValue
-    ∷ []
+    ∷ (bareChecks (f .uuid) (f .properties) ++ (when (not (isNil (f .value))) BadValue ∷ []))
 
 -- ---- frames by the first of them: a word where it is read, and else a key
 abbrev pub snapshotChecks : Bytes → Fields → List (Check Refusal)

@@ -24,13 +24,13 @@ use Rattle.ports.proofs.PortLaws.{port-frame}
 use Rattle.ports.specs.Ports.{icanhazChecks, icanhazPort}
 use Rattle.rows.proofs.RowLaws.{map-map}
 use Rattle.rows.specs.Rows.{Rows, mapRows}
-use Rattle.server.proofs.AnswerLaws.{refused-call, accepted-call, refusal-is}
+use Rattle.server_plan.proofs.AnswerLaws.{refused-call, accepted-call, refusal-is}
 use Rattle.server_plan.specs.Calls.{icanhaz}
 use Rattle.server_plan.specs.Next.{acceptedNext}
 use Rattle.server_plan.specs.Output.{acceptedBytes}
-use Rattle.server.specs.Promises.{Answered}
+use Rattle.server_plan.specs.Promises.{Answered}
 use Rattle.server_plan.specs.Refusals.{valueLength, snapshotChecks, callChecks, refusalOf}
-use Rattle.server.specs.declared.Reply.{Reply}
+use Rattle.server_plan.specs.declared.Reply.{Reply}
 use Rattle.server_state.proofs.FormLaws.{GoodServer, good-server}
 use Rattle.table.proofs.TableLaws.{values-fit}
 use Rattle.server_state.proofs.SnapshotLaws.{server-lengths, columns-length}

@@ -8,7 +8,7 @@ use mathlib.Core.Path.{_≡_, refl, sym, _∙_}
 use Rattle.answers.proofs.RefusalLaws.{spares, none-ill}
 use Rattle.answers.specs.declared.refusal.Refusal.the-variants.{IllFormed}
 use Rattle.ports.specs.Ports.{tickChecks}
-use Rattle.server.proofs.AnswerLaws.{well-refusal}
+use Rattle.server_plan.proofs.AnswerLaws.{well-refusal}
 use Rattle.server_plan.specs.Calls.{Call, kvset, tick, icanhaz}
 use Rattle.server_plan.specs.Deeds.{Deed, expire, beat, quiet, deed}
 use Rattle.server_plan.specs.Refusals.{deedChecks, callChecks, refusalOf}

@@ -16,9 +16,8 @@ use Rattle.base.specs.Checks.{firstOf}
 use Rattle.cells.specs.Cells.{cells}
 use Rattle.names.specs.Numbers.{sequence, maxSequence, maxTick}
 use Rattle.rows.specs.Rows.{rising}
-use Rattle.server.specs.Promises.{Began}
-use Rattle.server.specs.Start.{startChecks, startRefusal, startOf, startAnswer, emptyAt, headerAt}
-use Rattle.server.specs.declared.Reply.{Reply}
+use Rattle.server.specs.Start.{startChecks, startRefusal, startOf, startAnswer, emptyAt, headerAt, Began}
+use Rattle.server_plan.specs.declared.Reply.{Reply}
 use Rattle.server_state.proofs.FormLaws.{server-good}
 use Rattle.server_state.specs.IllFormed.{WellFormed}
 use Rattle.server_state.specs.Views.{view, entriesOf}

@@ -27,15 +27,15 @@ use Rattle.ports.specs.Ports.{framed, kvsetChecks, kvsetPort, tickChecks}
 use Rattle.properties.specs.Properties.{propertiesOf}
 use Rattle.rows.proofs.RowLaws.{map-hasKey, map-length}
 use Rattle.rows.specs.Rows.{hasKey, mapRows, setRow, removeRow}
-use Rattle.server.proofs.AnswerLaws.{accepted-call, refusal-is}
+use Rattle.server_plan.proofs.AnswerLaws.{accepted-call, refusal-is}
 use Rattle.server_plan.specs.Answers.{acceptedKind}
 use Rattle.server_plan.specs.Calls.{kvset}
 use Rattle.server_plan.specs.Next.{expiryAt, kvsetNext, acceptedNext}
 use Rattle.server_plan.specs.Output.{acceptedBytes}
-use Rattle.server.specs.Promises.{Answered}
+use Rattle.server_plan.specs.Promises.{Answered}
 use Rattle.server_plan.specs.Refusals.{update, updateChecks, callChecks, refusalOf}
 use Rattle.server.specs.Start.{headerAt}
-use Rattle.server.specs.declared.Reply.{Reply}
+use Rattle.server_plan.specs.declared.Reply.{Reply}
 use Rattle.server_state.proofs.FormLaws.{GoodServer, good-server, server-good}
 use Rattle.server_state.proofs.StateLaws.{Columns, keys-long, as-long, rows-long, rows-after, good-after}
 use Rattle.server_state.specs.IllFormed.{illFormsOf, isExpiry, WellFormed}

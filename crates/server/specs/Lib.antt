@@ -1,4 +1,2 @@
-pub mod Promises
-pub mod Repeats
 pub mod Runs
 pub mod Start

@@ -2,8 +2,9 @@
 use Prim.Native.Nat.{ℕ}
 use Rattle.base.specs.Bytes.{Bytes}
 use Rattle.server_plan.specs.Calls.{Call}
-use Rattle.server.specs.Promises.{Answered, Began}
-use Rattle.server.specs.declared.Reply.{Reply}
+use Rattle.server_plan.specs.Promises.{Answered}
+use Rattle.server_plan.specs.declared.Reply.{Reply}
+use Rattle.server.specs.Start.{Began}
 use Rattle.server_state.specs.declared.Server.{Server}
 
 pub data Reached : Server → Type 0 where

@@ -3,6 +3,7 @@ use Prim.Native.Nat.{ℕ}
 use mathlib.Core.Bool.{not}
 use mathlib.Core.List.{List, [], _∷_}
 use mathlib.Core.Option.{Option, none, some}
+use mathlib.Core.Path.{_≡_}
 use lib.Dec.{leb}
 use Rattle.answers.specs.Refusals.{ifAccepted}
 use Rattle.answers.specs.Answers.{answer}
@@ -13,7 +14,9 @@ use Rattle.answers.specs.declared.refusal.Refusal.{Refusal}
 use Rattle.base.specs.Checks.Check.{when}
 use Rattle.base.specs.Checks.{Check, firstOf}
 use Rattle.names.specs.Numbers.{sequence, maxSequence, maxTick}
-use Rattle.server_state.specs.Views.{Entry, Ledger}
+use Rattle.server_plan.specs.declared.Reply.{Reply}
+use Rattle.server_state.specs.IllFormed.{WellFormed}
+use Rattle.server_state.specs.Views.{Entry, Ledger, view}
 use Rattle.server_state.specs.declared.Header.{Header}
 
 abbrev pub startChecks : ℕ → ℕ → List (Check Refusal)
@@ -42,3 +45,9 @@ startAnswer n t = startAnswerBy (startRefusal n t) n
 -- a header at a number and a tick
 abbrev pub headerAt : ℕ → ℕ → Header
 headerAt n t = record { number = record { 0 = n }; «last_tick» = record { 0 = t }; «last_published» = record { 0 = t } }
+
+-- ---- what a start promises: at a number and a tick it gives the reply r
+pub record Began (n t : ℕ) (r : Reply) : Type 0 where
+  pub answer : r .answer ≡ startAnswer n t
+  pub ledger : view (r .state) ≡ startOf n t
+  pub well-formed : WellFormed (r .state)

@@ -1,14 +1,14 @@
 // ICANHAZ: the snapshot of a subtree.
-use crate::Reply;
 use answers::answer;
 use answers::answer::Kind;
 use answers::refusal::Verdict;
 use frames::read;
+use server_plan::Reply;
 use server_state::Server;
 use server_state::snapshot;
 ghost use lib.ListN.{length};
 ghost use Rattle.server_plan.specs.Calls.{icanhaz as requested};
-ghost use Rattle.server.specs.Promises.{Answered};
+ghost use Rattle.server_plan.specs.Promises.{Answered};
 
 // The frames of the request.
 const IDENTITY: usize = 0;

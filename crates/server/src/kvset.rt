@@ -1,6 +1,4 @@
 // KVSET: an update that a client asks for is made and published.
-use crate::Reply;
-use crate::number;
 use answers::answer;
 use answers::answer::Kind;
 use frames::read;
@@ -12,7 +10,9 @@ use messages::write;
 use names::numbers::Tick;
 use properties::read::Lifetime;
 use properties::read::Properties;
+use server_plan::Reply;
 use server_plan::kvset::Plan;
+use server_plan::number;
 use server_state::Header;
 use server_state::NEVER;
 use server_state::Server;
@@ -29,7 +29,7 @@ ghost use Rattle.server_state.specs.IllFormed.{isExpiry};
 ghost use Rattle.server_state.specs.Views.{expiryIn};
 ghost use Rattle.server_plan.specs.Calls.{kvset as asked};
 ghost use Rattle.server_plan.specs.Next.{expiryAt};
-ghost use Rattle.server.specs.Promises.{Answered};
+ghost use Rattle.server_plan.specs.Promises.{Answered};
 
 // When a row that is set at a tick expires, by the properties of its update.
 fn expiry_at(tick: Tick, properties: &[u8]) -> u64

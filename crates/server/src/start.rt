@@ -1,5 +1,4 @@
 // The start of a server.
-use crate::Reply;
 use answers::answer;
 use answers::answer::Kind;
 use answers::refusal::Refusal;
@@ -7,14 +6,14 @@ use answers::refusal::Verdict;
 use names::numbers;
 use names::numbers::Sequence;
 use names::numbers::Tick;
+use server_plan::Reply;
 use server_state::Header;
 use server_state::Server;
 use table::Table;
 ghost use mathlib.Core.Path.{_≡_};
 ghost use Rattle.base.specs.Checks.{firstOf};
 ghost use Rattle.answers.specs.Refusals.{verdict};
-ghost use Rattle.server.specs.Promises.{Began};
-ghost use Rattle.server.specs.Start.{startChecks, headerAt};
+ghost use Rattle.server.specs.Start.{startChecks, headerAt, Began};
 
 fn check_start(number: Sequence, tick: Tick) -> Verdict
     ensures { λ r. ⌜ r ≡ verdict (firstOf (startChecks (number .0) (tick .0))) ⌝ }

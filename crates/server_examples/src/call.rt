@@ -7,11 +7,11 @@ use messages::identity;
 use messages::write;
 use names::numbers::Sequence;
 use names::numbers::Tick;
-use server::Reply;
 use server::icanhaz;
 use server::kvset;
 use server::start;
-use server::tick;
+use server_clock::tick;
+use server_plan::Reply;
 use server_state::Server;
 
 // A server at a number and a tick.

@@ -7,7 +7,7 @@ use base::octets;
 use messages::identity;
 use messages::write;
 use names::numbers::Sequence;
-use server::Reply;
+use server_plan::Reply;
 use server_state::Server;
 
 // The subtree of 95 bytes that the keys are under.

@@ -1,3 +1,4 @@
+pub mod AnswerLaws
 pub mod DeedLaws
 pub mod KvsetLaws
 pub mod LengthLaws

@@ -4,4 +4,5 @@ pub mod Deeds
 pub mod Next
 pub mod Output
 pub mod Plans
+pub mod Promises
 pub mod Refusals

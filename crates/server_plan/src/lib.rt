@@ -1,5 +1,15 @@
 // What a call on a server comes to: what it refuses, what an accepted one is to do, writes and answers. Functions that only read decide it; who acts
-// on it is the crate server. They are lent the columns of a state, never the state.
+// on it are the crates server and server_clock. They are lent the columns of a state, never the state.
+use answers::answer::Answer;
+use server_state::Server;
+
 pub mod icanhaz;
 pub mod kvset;
+pub mod number;
 pub mod tick;
+
+// The state after a call, and what the call answers.
+pub struct Reply {
+    pub state: Server,
+    pub answer: Answer,
+}

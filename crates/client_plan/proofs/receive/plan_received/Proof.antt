@@ -1,5 +1,4 @@
 -- `client_plan::receive::plan_received` meets its contract: the state, and then the message by its entry. Assumes nothing.
-use mathlib.Core.Bool.{true}
 use mathlib.Core.List.{List, _++_}
 use mathlib.Core.Option.{Option}
 use mathlib.Core.Path.{_≡_, sym, ap, _∙_}

@@ -1,5 +1,5 @@
 -- `client_plan::snapshot::plan_snapshot` meets its contract: the frames, and then what the message does. Assumes nothing.
-use mathlib.Core.List.{List, _++_}
+use mathlib.Core.List.{List}
 use mathlib.Core.Path.{_≡_, sym, ap, _∙_}
 use denote.Ref.{now}
 use Rattle.answers.proofs.VerdictLaws.{accepted, past-accepted, past-refused}

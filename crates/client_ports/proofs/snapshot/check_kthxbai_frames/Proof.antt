@@ -1,24 +1,24 @@
 -- `client_ports::snapshot::check_kthxbai_frames` meets its contract: the checks in their order, each behind those that passed. Assumes nothing.
 use mathlib.Core.Bool.{Bool, not}
 use mathlib.Core.List.{List}
-use mathlib.Core.Path.{_≡_, refl, sym, ap, _∙_}
+use mathlib.Core.Path.{_≡_, refl, sym, _∙_}
 use lib.Dec.{leb}
 use lib.ListN.{drop}
-use borrow.Author.Needs.{needs}
 use denote.Ref.{now}
 use Rattle.answers.specs.Refusals.{verdict}
 use Rattle.answers.specs.declared.refusal.Refusal.{Refusal}
 use Rattle.answers.specs.declared.refusal.Verdict.{Verdict}
-use Rattle.base.proofs.CheckLaws.{Left, pass, stop, done, asked}
-use Rattle.base.specs.Bytes.{same}
+use Rattle.base.proofs.CheckLaws.{Left, pass, stop, asked}
 use Rattle.base.specs.Checks.{Check, firstOf}
+use Rattle.base.specs.Bytes.{same}
 use Rattle.base.specs.Octets.{number}
 use Rattle.frames.specs.Messages.{bodyAt}
 use Rattle.names.specs.Numbers.{maxSequence, numberedOf}
 use Rattle.names.specs.declared.numbers.Numbered.the-variants.{By}
-use Rattle.ports.proofs.PortLaws.{told, empty-pass, empty-stop, unnumbered-stop, numbered-pass, number-is}
+use Rattle.ports.proofs.PortLaws.{told, unnumbered-stop, numbered-pass, number-is}
 use Rattle.ports.specs.Bodies.{bodiesOf}
 use Rattle.ports.specs.Ports.{kthxbaiChecks}
+use borrow.Author.Needs.{needs}
 use Rattle.client_ports.proofs.snapshot.check_kthxbai_frames.Statement.{statement}
 use Rattle.client_ports.proofs.snapshot.check_kthxbai_frames.Tie as tie
 
@@ -45,9 +45,6 @@ kept c h = rw (number-is (c .before .before .before .before .before .body2 .ensu
 
 past-sequence : (c : tie.Else2) → Left verdict (answer (c .before .before .before .before .before .before .before .before .before .before .before .before)) (drop 3 (table (c .before .before .before .before .before .before .before .before .before .before .before .before)))
 past-sequence c = pass (past-length (c .before .before .before)) (kept (c .before) (c .if2 .left))
-
-past-uuid : (c : tie.Else3) → Left verdict (answer (c .before .before .before .before .before .before .before .before .before .before .before .before .before .before)) (drop 4 (table (c .before .before .before .before .before .before .before .before .before .before .before .before .before .before)))
-past-uuid c = pass (past-sequence (c .before .before)) (ap not (empty-pass (c .before .body3 .ensures) (c .if3 .left)))
 
 body-requires : tie.Need-body-requires
 body-requires c κs = search needs
@@ -79,20 +76,11 @@ is-kept-requires c κs = search needs
 returns-3 : tie.Need-returns-3
 returns-3 c = stop (past-length (c .before .before .before)) (kept (c .before) (c .if2 .taken))
 
-body-requires-3 : tie.Need-body-requires-3
-body-requires-3 c κs = search needs
+check-bare-requires : tie.Need-check-bare-requires
+check-bare-requires c κs = search needs
 
 returns-4 : tie.Need-returns-4
-returns-4 c = stop (past-sequence (c .before .before)) (ap not (empty-stop (c .before .body3 .ensures) (c .if3 .taken)))
-
-body-requires-4 : tie.Need-body-requires-4
-body-requires-4 c κs = search needs
-
-returns-5 : tie.Need-returns-5
-returns-5 c = stop (past-uuid (c .before .before)) (ap not (empty-stop (c .before .body4 .ensures) (c .if4 .taken)))
-
-returns-6 : tie.Need-returns-6
-returns-6 c = done (pass (past-uuid (c .before .before)) (ap not (empty-pass (c .before .body4 .ensures) (c .if4 .left))))
+returns-4 c = c .check-bare .ensures ∙ sym (past-sequence (c .before) .is)
 
 pub check-kthxbai-frames-spec : {M : Type 1} → statement M
 check-kthxbai-frames-spec =
@@ -108,8 +96,5 @@ check-kthxbai-frames-spec =
     returns-2
     is-kept-requires
     returns-3
-    body-requires-3
-    returns-4
-    body-requires-4
-    returns-5
-    returns-6)
+    check-bare-requires
+    returns-4)

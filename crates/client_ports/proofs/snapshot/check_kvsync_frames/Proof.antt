@@ -1,20 +1,20 @@
 -- `client_ports::snapshot::check_kvsync_frames` meets its contract: the checks in their order, each behind those that passed. Assumes nothing.
-use mathlib.Core.Bool.{not}
 use mathlib.Core.List.{List}
-use mathlib.Core.Path.{refl, sym, ap, _∙_}
+use mathlib.Core.Path.{refl, sym, _∙_}
 use lib.ListN.{drop}
-use borrow.Author.Needs.{needs}
 use denote.Ref.{now}
+use Rattle.answers.proofs.VerdictLaws.{accepted, refused}
 use Rattle.answers.specs.Refusals.{verdict}
 use Rattle.answers.specs.declared.refusal.Refusal.{Refusal}
 use Rattle.answers.specs.declared.refusal.Verdict.{Verdict}
-use Rattle.base.proofs.CheckLaws.{Left, pass, stop, done}
+use Rattle.base.proofs.CheckLaws.{Left, pass, stop, pass-table, stop-table}
 use Rattle.base.specs.Checks.{Check, firstOf}
+use Rattle.frames.specs.Messages.{bodyAt}
 use Rattle.names.specs.Keys.{isKey, under}
-use Rattle.names.specs.Lengths.{isValue}
-use Rattle.ports.proofs.PortLaws.{told, empty-pass, empty-stop, unnumbered-stop, numbered-pass}
+use Rattle.ports.proofs.PortLaws.{told, unnumbered-stop, numbered-pass}
 use Rattle.ports.specs.Bodies.{bodiesOf}
-use Rattle.ports.specs.Ports.{kvsyncChecks}
+use Rattle.ports.specs.Ports.{bareChecks, heldChecks, kvsyncChecks}
+use borrow.Author.Needs.{needs}
 use Rattle.client_ports.proofs.snapshot.check_kvsync_frames.Statement.{statement}
 use Rattle.client_ports.proofs.snapshot.check_kvsync_frames.Tie as tie
 
@@ -27,6 +27,12 @@ answer s = verdict (firstOf (table s))
 whole : (s : tie.Start) → Left verdict (answer s) (table s)
 whole s = record { is = refl }
 
+abbrev bare : tie.Start → List (Check Refusal)
+bare s = bareChecks (bodyAt 2 (now (s .args .msg))) (bodyAt 3 (now (s .args .msg)))
+
+abbrev held : tie.Start → List (Check Refusal)
+held s = heldChecks (bodyAt 4 (now (s .args .msg)))
+
 past-key : (c : tie.Else1) → Left verdict (answer (c .before .before .before .before .before)) (drop 1 (table (c .before .before .before .before .before)))
 past-key c = pass (whole (c .before .before .before .before .before)) (told (c .before .before .body .ensures) isKey (c .before .is-key .ensures) (c .if1 .left))
 
@@ -36,14 +42,8 @@ past-subtree c = pass (past-key (c .before .before)) (told (c .before .before .b
 past-sequence : (c : tie.After-enum-told) → Left verdict (answer (c .before .before .before .before .before .before .before .before .before .before .before)) (drop 3 (table (c .before .before .before .before .before .before .before .before .before .before .before)))
 past-sequence c = pass (past-subtree (c .before .before .before .before)) (numbered-pass (c .before .before .before .body2 .ensures) _ (sym (c .enum-told .given .1) ∙ c .before .before .read-sequence .ensures))
 
-past-uuid : (c : tie.Else3) → Left verdict (answer (c .before .before .before .before .before .before .before .before .before .before .before .before .before)) (drop 4 (table (c .before .before .before .before .before .before .before .before .before .before .before .before .before)))
-past-uuid c = pass (past-sequence (c .before .before)) (ap not (empty-pass (c .before .body3 .ensures) (c .if3 .left)))
-
-past-properties : (c : tie.Else4) → Left verdict (answer (c .before .before .before .before .before .before .before .before .before .before .before .before .before .before .before)) (drop 5 (table (c .before .before .before .before .before .before .before .before .before .before .before .before .before .before .before)))
-past-properties c = pass (past-uuid (c .before .before)) (ap not (empty-pass (c .before .body4 .ensures) (c .if4 .left)))
-
-past-empty : (c : tie.Else5) → Left verdict (answer (c .before .before .before .before .before .before .before .before .before .before .before .before .before .before .before .before .before)) (drop 6 (table (c .before .before .before .before .before .before .before .before .before .before .before .before .before .before .before .before .before)))
-past-empty c = pass (past-properties (c .before .before)) (empty-stop (c .before .body5 .ensures) (c .if5 .left))
+past-bare : (c : tie.After-enum-told3) → Left verdict (answer (c .before .before .before .before .before .before .before .before .before .before .before .before .before .before)) (held (c .before .before .before .before .before .before .before .before .before .before .before .before .before .before))
+past-bare c = pass-table (bare (c .before .before .before .before .before .before .before .before .before .before .before .before .before .before)) (held (c .before .before .before .before .before .before .before .before .before .before .before .before .before .before)) (past-sequence (c .before .before .before)) (accepted _ (sym (c .enum-told3 .given .1) ∙ c .before .before .check-bare .ensures))
 
 body-requires : tie.Need-body-requires
 body-requires c κs = search needs
@@ -75,32 +75,26 @@ enum-told-2 c = search needs
 returns-3 : tie.Need-returns-3
 returns-3 c = stop (past-subtree (c .before .before .before .before)) (unnumbered-stop (c .before .before .before .body2 .ensures) (sym (c .enum-told2 .given .1) ∙ c .before .before .read-sequence .ensures))
 
+check-bare-requires : tie.Need-check-bare-requires
+check-bare-requires c κs = search needs
+
+enum-known-r : tie.Need-enum-known-r
+enum-known-r c = search needs
+
+enum-told-3 : tie.Need-enum-told-3
+enum-told-3 c = search needs
+
 body-requires-3 : tie.Need-body-requires-3
 body-requires-3 c κs = search needs
 
-returns-4 : tie.Need-returns-4
-returns-4 c = stop (past-sequence (c .before .before)) (ap not (empty-stop (c .before .body3 .ensures) (c .if3 .taken)))
+check-held-requires : tie.Need-check-held-requires
+check-held-requires c κs = search needs
 
-body-requires-4 : tie.Need-body-requires-4
-body-requires-4 c κs = search needs
+returns-4 : tie.Need-returns-4
+returns-4 c = stop-table (bare (c .before .before .before .before .before .before .before .before .before .before .before .before .before .before .before)) (held (c .before .before .before .before .before .before .before .before .before .before .before .before .before .before .before)) (past-sequence (c .before .before .before .before)) (refused _ _ (sym (c .before .r .given .1) ∙ c .before .before .before .check-bare .ensures))
 
 returns-5 : tie.Need-returns-5
-returns-5 c = stop (past-uuid (c .before .before)) (ap not (empty-stop (c .before .body4 .ensures) (c .if4 .taken)))
-
-body-requires-5 : tie.Need-body-requires-5
-body-requires-5 c κs = search needs
-
-returns-6 : tie.Need-returns-6
-returns-6 c = stop (past-properties (c .before .before)) (empty-pass (c .before .body5 .ensures) (c .if5 .taken))
-
-is-value-requires : tie.Need-is-value-requires
-is-value-requires c κs = search needs
-
-returns-7 : tie.Need-returns-7
-returns-7 c = stop (past-empty (c .before .before)) (told (c .before .before .before .body5 .ensures) isValue (c .before .is-value .ensures) (c .if6 .taken))
-
-returns-8 : tie.Need-returns-8
-returns-8 c = done (pass (past-empty (c .before .before)) (told (c .before .before .before .body5 .ensures) isValue (c .before .is-value .ensures) (c .if6 .left)))
+returns-5 c = c .check-held .ensures ∙ rw (c .before .body3 .ensures) (sym (past-bare (c .before .before) .is))
 
 pub check-kvsync-frames-spec : {M : Type 1} → statement M
 check-kvsync-frames-spec =
@@ -116,12 +110,10 @@ check-kvsync-frames-spec =
     enum-told
     enum-told-2
     returns-3
+    check-bare-requires
+    enum-known-r
+    enum-told-3
     body-requires-3
+    check-held-requires
     returns-4
-    body-requires-4
-    returns-5
-    body-requires-5
-    returns-6
-    is-value-requires
-    returns-7
-    returns-8)
+    returns-5)

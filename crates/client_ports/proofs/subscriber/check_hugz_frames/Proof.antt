@@ -1,23 +1,27 @@
 -- `client_ports::subscriber::check_hugz_frames` meets its contract: the checks in their order, each behind those that passed. Assumes nothing.
 use mathlib.Core.Bool.{not}
-use mathlib.Core.List.{List}
+use mathlib.Core.List.{List, [], _∷_}
 use mathlib.Core.Path.{_≡_, refl, sym, ap, _∙_}
 use lib.ListN.{drop}
-use borrow.Author.Needs.{needs}
 use borrow.Author.Tests.{eq-eqb, ne-eqb}
 use denote.Ref.{now}
+use Rattle.answers.proofs.VerdictLaws.{accepted, refused}
+use Rattle.answers.specs.declared.refusal.Refusal.the-variants.{BadValue}
 use Rattle.answers.specs.Refusals.{verdict}
 use Rattle.answers.specs.declared.refusal.Refusal.{Refusal}
 use Rattle.answers.specs.declared.refusal.Verdict.{Verdict}
-use Rattle.base.proofs.CheckLaws.{Left, pass, stop, done}
+use Rattle.base.proofs.CheckLaws.{Left, pass, stop, done, pass-table, stop-table}
 use Rattle.base.specs.Checks.{Check, firstOf}
+use Rattle.base.specs.Bytes.{isNil}
+use Rattle.base.specs.Checks.Check.{when}
 use Rattle.base.specs.Octets.{number}
 use Rattle.frames.specs.Messages.{bodyAt}
 use Rattle.names.specs.Numbers.{numberedOf}
 use Rattle.names.specs.declared.numbers.Numbered.the-variants.{By}
 use Rattle.ports.proofs.PortLaws.{empty-pass, empty-stop, unnumbered-stop, numbered-pass, number-is}
 use Rattle.ports.specs.Bodies.{bodiesOf}
-use Rattle.ports.specs.Ports.{hugzChecks}
+use Rattle.ports.specs.Ports.{bareChecks, hugzChecks}
+use borrow.Author.Needs.{needs}
 use Rattle.client_ports.proofs.subscriber.check_hugz_frames.Statement.{statement}
 use Rattle.client_ports.proofs.subscriber.check_hugz_frames.Tie as tie
 
@@ -29,6 +33,12 @@ answer s = verdict (firstOf (table s))
 
 whole : (s : tie.Start) → Left verdict (answer s) (table s)
 whole s = record { is = refl }
+
+abbrev bare : tie.Start → List (Check Refusal)
+bare s = bareChecks (bodyAt 2 (now (s .args .msg))) (bodyAt 3 (now (s .args .msg)))
+
+abbrev empty : tie.Start → List (Check Refusal)
+empty s = when (not (isNil (bodyAt 4 (now (s .args .msg))))) BadValue ∷ []
 
 numbered-by : (c : tie.After-n) → By (c .n .given .0 .0) ≡ numberedOf (now (c .before .before .before .body .result))
 numbered-by c = sym (c .n .given .1) ∙ c .before .before .read-sequence .ensures
@@ -42,11 +52,8 @@ number-told c = number-is (c .before .before .before .body .ensures) _ (numbered
 past-sequence : (c : tie.Else1) → Left verdict (answer (c .before .before .before .before .before .before .before .before)) (drop 2 (table (c .before .before .before .before .before .before .before .before)))
 past-sequence c = pass (past-length (c .before .before .before)) (rw (number-told (c .before .before .before), eq-eqb _ 0 (c .if1 .left)))
 
-past-uuid : (c : tie.Else2) → Left verdict (answer (c .before .before .before .before .before .before .before .before .before .before)) (drop 3 (table (c .before .before .before .before .before .before .before .before .before .before)))
-past-uuid c = pass (past-sequence (c .before .before)) (ap not (empty-pass (c .before .body2 .ensures) (c .if2 .left)))
-
-past-properties : (c : tie.Else3) → Left verdict (answer (c .before .before .before .before .before .before .before .before .before .before .before .before)) (drop 4 (table (c .before .before .before .before .before .before .before .before .before .before .before .before)))
-past-properties c = pass (past-uuid (c .before .before)) (ap not (empty-pass (c .before .body3 .ensures) (c .if3 .left)))
+past-bare : (c : tie.After-enum-told2) → Left verdict (answer (c .before .before .before .before .before .before .before .before .before .before .before)) (empty (c .before .before .before .before .before .before .before .before .before .before .before))
+past-bare c = pass-table (bare (c .before .before .before .before .before .before .before .before .before .before .before)) (empty (c .before .before .before .before .before .before .before .before .before .before .before)) (past-sequence (c .before .before .before)) (accepted _ (sym (c .enum-told2 .given .1) ∙ c .before .before .check-bare .ensures))
 
 body-requires : tie.Need-body-requires
 body-requires c κs = search needs
@@ -66,26 +73,26 @@ returns c = stop (whole (c .before .before .before .before .before)) (unnumbered
 returns-2 : tie.Need-returns-2
 returns-2 c = stop (past-length (c .before .before .before)) (rw (number-told (c .before .before .before), ne-eqb _ 0 (c .if1 .taken)))
 
+check-bare-requires : tie.Need-check-bare-requires
+check-bare-requires c κs = search needs
+
+enum-known-r : tie.Need-enum-known-r
+enum-known-r c = search needs
+
+enum-told-2 : tie.Need-enum-told-2
+enum-told-2 c = search needs
+
 body-requires-2 : tie.Need-body-requires-2
 body-requires-2 c κs = search needs
 
 returns-3 : tie.Need-returns-3
-returns-3 c = stop (past-sequence (c .before .before)) (ap not (empty-stop (c .before .body2 .ensures) (c .if2 .taken)))
-
-body-requires-3 : tie.Need-body-requires-3
-body-requires-3 c κs = search needs
+returns-3 c = stop (past-bare (c .before .before)) (ap not (empty-stop (c .before .body2 .ensures) (c .if2 .taken)))
 
 returns-4 : tie.Need-returns-4
-returns-4 c = stop (past-uuid (c .before .before)) (ap not (empty-stop (c .before .body3 .ensures) (c .if3 .taken)))
-
-body-requires-4 : tie.Need-body-requires-4
-body-requires-4 c κs = search needs
+returns-4 c = stop-table (bare (c .before .before .before .before .before .before .before .before .before .before .before .before)) (empty (c .before .before .before .before .before .before .before .before .before .before .before .before)) (past-sequence (c .before .before .before .before)) (refused _ _ (sym (c .before .r .given .1) ∙ c .before .before .before .check-bare .ensures))
 
 returns-5 : tie.Need-returns-5
-returns-5 c = stop (past-properties (c .before .before)) (ap not (empty-stop (c .before .body4 .ensures) (c .if4 .taken)))
-
-returns-6 : tie.Need-returns-6
-returns-6 c = done (pass (past-properties (c .before .before)) (ap not (empty-pass (c .before .body4 .ensures) (c .if4 .left))))
+returns-5 c = done (pass (past-bare (c .before .before)) (ap not (empty-pass (c .before .body2 .ensures) (c .if2 .left))))
 
 pub check-hugz-frames-spec : {M : Type 1} → statement M
 check-hugz-frames-spec =
@@ -97,10 +104,10 @@ check-hugz-frames-spec =
     enum-told
     returns
     returns-2
+    check-bare-requires
+    enum-known-r
+    enum-told-2
     body-requires-2
     returns-3
-    body-requires-3
     returns-4
-    body-requires-4
-    returns-5
-    returns-6)
+    returns-5)

@@ -15,7 +15,7 @@ use Rattle.answers.specs.declared.answer.Kind.the-variants.{Wrote}
 use Rattle.messages.specs.Fields.{frameAt, fieldsOf}
 use Rattle.names.specs.declared.numbers.Sequence.{Sequence}
 use Rattle.properties.specs.Properties.{propertiesOf}
-use Rattle.server.proofs.AnswerLaws.{refused-call}
+use Rattle.server_plan.proofs.AnswerLaws.{refused-call}
 use Rattle.server_plan.proofs.KvsetLaws.{goes-on, goes-with, stops-with, written-as}
 use Rattle.server.proofs.UpdateLaws.{kvsetTable, kvset-refusal, change-is-fit, key-short, value-short, in-time, number-left, kvset-done, frames-are}
 use Rattle.server_plan.specs.Calls.{kvset}

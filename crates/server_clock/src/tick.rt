@@ -1,10 +1,10 @@
 // Tick: a row that is due expires, or the server gives a sign of life.
-use crate::Reply;
-use crate::number;
 use answers::answer;
 use answers::answer::Kind;
 use messages::write;
 use names::numbers::Tick;
+use server_plan::Reply;
+use server_plan::number;
 use server_plan::tick::Step;
 use server_state::Header;
 use server_state::Server;
@@ -13,7 +13,7 @@ use table::change::Change;
 use table::text;
 ghost use lib.ListN.{length};
 ghost use Rattle.server_plan.specs.Calls.{tick as told};
-ghost use Rattle.server.specs.Promises.{Answered};
+ghost use Rattle.server_plan.specs.Promises.{Answered};
 
 // Tick: the time is told, and what it brings about is published in the output.
 pub fn tick(mut s: Server, tick: Tick, out: &mut [u8]) -> Reply

@@ -1,10 +1,10 @@
--- `server::number::next_number` meets its contract: one more is the successor. Assumes nothing.
+-- `server_plan::number::next_number` meets its contract: one more is the successor. Assumes nothing.
 use native.Mathlib.Numerals.{add-one}
 use mathlib.Core.Path.{ap}
 use Rattle.names.specs.Numbers.{sequence}
 use borrow.Author.Needs.{needs}
-use Rattle.server.proofs.number.next_number.Statement.{statement}
-use Rattle.server.proofs.number.next_number.Tie as tie
+use Rattle.server_plan.proofs.number.next_number.Statement.{statement}
+use Rattle.server_plan.proofs.number.next_number.Tie as tie
 
 add-t2 : tie.Need-add-t2
 add-t2 c = search needs

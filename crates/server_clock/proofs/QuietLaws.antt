@@ -21,19 +21,19 @@ use Rattle.names.specs.Keys.{isKey}
 use Rattle.names.specs.Numbers.{maxSequence, maxTick}
 use Rattle.rows.proofs.RowLaws.{map-remove, map-length, map-keys, sorted-map, sorted-remove, rising-sorted, every-remove}
 use Rattle.rows.specs.Rows.{Rows, removeRow, keysIn, Sorted, mapRows, rising}
-use Rattle.server.proofs.AnswerLaws.{well-refusal}
+use Rattle.server_plan.proofs.AnswerLaws.{well-refusal}
 use Rattle.server_plan.proofs.LengthLaws.{expiry-bound, hugz-length}
 use Rattle.server_plan.specs.Answers.{answerFor}
 use Rattle.server_plan.specs.Calls.{tick}
 use Rattle.server_plan.specs.Deeds.{Deed, expire, beat, quiet, deedOf, deed}
 use Rattle.server_plan.specs.Next.{tickNext, acceptedNext, nextOf}
 use Rattle.server_plan.specs.Output.{tickBytes, acceptedBytes, bytesFor}
-use Rattle.server.specs.Promises.{Answered}
+use Rattle.server_plan.specs.Promises.{Answered}
 use Rattle.server_plan.specs.Refusals.{expiry, deedChecks, callChecks}
-use Rattle.server.specs.Repeats.QuietBy.{quietens, stops}
-use Rattle.server.specs.Repeats.SilentBy.{silent, spent}
-use Rattle.server.specs.Repeats.{tickStep, ticked, QuietBy, Ticking, SilentBy}
-use Rattle.server.specs.declared.Reply.{Reply}
+use Rattle.server_clock.specs.Repeats.QuietBy.{quietens, stops}
+use Rattle.server_clock.specs.Repeats.SilentBy.{silent, spent}
+use Rattle.server_clock.specs.Repeats.{tickStep, ticked, QuietBy, Ticking, SilentBy}
+use Rattle.server_plan.specs.declared.Reply.{Reply}
 use Rattle.server_state.proofs.DueLaws.{dueCount, count-due, count-length, count-none, count-some, due-key}
 use Rattle.server_state.proofs.FormLaws.{good-server}
 use Rattle.server_state.proofs.StateLaws.{as-long, rows-long}

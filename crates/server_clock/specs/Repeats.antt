@@ -11,9 +11,9 @@ use Rattle.base.specs.Checks.{firstOf}
 use Rattle.server_plan.specs.Calls.{tick}
 use Rattle.server_plan.specs.Deeds.{quiet, deed}
 use Rattle.server_plan.specs.Next.{acceptedNext}
-use Rattle.server.specs.Promises.{Answered}
+use Rattle.server_plan.specs.Promises.{Answered}
 use Rattle.server_plan.specs.Refusals.{callChecks}
-use Rattle.server.specs.declared.Reply.{Reply}
+use Rattle.server_plan.specs.declared.Reply.{Reply}
 use Rattle.server_state.specs.Views.{Entry, Ledger, ledgerOf}
 use Rattle.server_state.specs.declared.Server.{Server}
 

@@ -27,16 +27,16 @@ use Rattle.names.specs.Numbers.{sequence, maxSequence, maxTick}
 use Rattle.names.specs.declared.numbers.Sequence.{Sequence}
 use Rattle.names.specs.declared.numbers.Tick.{Tick}
 use Rattle.rows.specs.Rows.{removeRow}
-use Rattle.server.proofs.AnswerLaws.{refused-call, accepted-call, refusal-is}
+use Rattle.server_plan.proofs.AnswerLaws.{refused-call, accepted-call, refusal-is}
 use Rattle.server_plan.specs.Answers.{tickKind}
 use Rattle.server_plan.specs.Calls.{Call, tick}
 use Rattle.server_plan.specs.Deeds.{Deed, expire, beat, quiet, deed, deedOf}
 use Rattle.server_plan.specs.Next.{acceptedNext, tickNext}
 use Rattle.server_plan.specs.Output.{acceptedBytes, tickBytes}
 use Rattle.server_plan.specs.Plans.{deedAt, stepOf}
-use Rattle.server.specs.Promises.{Answered}
+use Rattle.server_plan.specs.Promises.{Answered}
 use Rattle.server_plan.specs.Refusals.{expiry, deedChecks, callChecks, refusalOf}
-use Rattle.server.specs.declared.Reply.{Reply}
+use Rattle.server_plan.specs.declared.Reply.{Reply}
 use Rattle.server_plan.specs.declared.tick.Step.the-variants.{Refuse as Stop, Expire, Beat, Quiet}
 use Rattle.server_plan.specs.declared.tick.Step.{Step}
 use Rattle.server_state.proofs.DueLaws.{due-at, keyed, by-place}

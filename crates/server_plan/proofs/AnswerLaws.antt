@@ -14,13 +14,13 @@ use Rattle.base.proofs.OutputLaws.{put-nothing}
 use Rattle.base.specs.Bytes.{Bytes}
 use Rattle.base.specs.Checks.{Check, firstOf}
 use Rattle.base.specs.Output.{put}
 use Rattle.server_plan.specs.Answers.{acceptedKind, answerFor}
 use Rattle.server_plan.specs.Calls.{Call}
 use Rattle.server_plan.specs.Next.{acceptedNext, nextOf}
 use Rattle.server_plan.specs.Output.{acceptedBytes, bytesFor}
-use Rattle.server.specs.Promises.{Answered}
+use Rattle.server_plan.specs.Promises.{Answered}
 use Rattle.server_plan.specs.Refusals.{callChecks, refusalOf}
-use Rattle.server.specs.declared.Reply.{Reply}
+use Rattle.server_plan.specs.declared.Reply.{Reply}
 use Rattle.server_state.specs.IllFormed.{illFormsOf, WellFormed}
 use Rattle.server_state.specs.Views.{view, ledgerOf}
 use Rattle.server_state.specs.declared.Server.{Server}

@@ -1,12 +1,12 @@
--- `server::tick::tick` meets its contract: it does what was planned. A row that expires is taken out of every column once its removal is
+-- `server_clock::tick::tick` meets its contract: it does what was planned. A row that expires is taken out of every column once its removal is
 -- written; a sign of life is written; each of them, and a Tick with nothing to do, notes its time. Assumes nothing.
 use mathlib.Core.List.{[]}
 use mathlib.Core.Path.{refl}
 use denote.Ref.{now}
 use borrow.Author.Needs.{needs}
-use Rattle.server.proofs.TickLaws.{RowKnown, row-holds, tick-refused, tick-quiet, tick-beat, tick-expired}
-use Rattle.server.proofs.tick.tick.Statement.{statement}
-use Rattle.server.proofs.tick.tick.Tie as tie
+use Rattle.server_clock.proofs.TickLaws.{RowKnown, row-holds, tick-refused, tick-quiet, tick-beat, tick-expired}
+use Rattle.server_clock.proofs.tick.tick.Statement.{statement}
+use Rattle.server_clock.proofs.tick.tick.Tie as tie
 use Rattle.server_state.specs.Views.{SizedServer}
 
 -- how long the columns are

@@ -5,7 +5,7 @@ ghost use Prim.Native.Nat.{suc, _<_};
 ghost use Rattle.names.specs.Numbers.{sequence, maxSequence};
 
 // The number behind a number that is not the last.
-pub(crate) fn next_number(n: Sequence) -> Sequence
+pub fn next_number(n: Sequence) -> Sequence
     requires { ⌜ n .0 < maxSequence ⌝ }
     ensures { λ r. ⌜ r ≡ sequence (suc (n .0)) ⌝ }
 {
