@@ -56,7 +56,8 @@ pub record Taken (c : Client) (e : Effect) : Type 0 where
   pub in-time : InTime e
   pub room : overfills (λ (k : Bytes). isFound (placeOf 0 k (tableKeys (c .table)))) (c .table .count) e ≡ false
 
-clash : {A : Type 0} → _≡_ {A = ℕ} 0 1 → A
+-- for cases that cannot be
+pub clash : {A : Type 0} → _≡_ {A = ℕ} 0 1 → A
 clash z = absurd (omega arith)
 
 -- a live client may have any number

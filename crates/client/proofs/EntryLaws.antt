@@ -2,7 +2,7 @@
 -- accepted, with what is known of it. Assumes nothing.
 use Prim.Native.Nat.{ℕ, _≤_, _<_}
 use native.Mathlib.Omega.{arith}
-use mathlib.Core.Bool.{Bool, true, false, not, cond}
+use mathlib.Core.Bool.{Bool, true, false, not, cond, Bool·not-not}
 use mathlib.Core.List.{List, [], _++_}
 use mathlib.Core.Option.{Option, none, some}
 use mathlib.Core.Path.{_≡_, refl, sym, ap, _∙_}
@@ -23,7 +23,7 @@ use Rattle.client_state.specs.Views.{isWaiting, subtreeOf, view}
 use Rattle.client_state.specs.declared.Client.{Client}
 use Rattle.client_state.specs.declared.Header.{Header}
 use Rattle.client_plan.proofs.AnswerLaws.{accepted-call, refusal-is}
-use Rattle.client.proofs.EffectLaws.{Taken, RowKnown, row-known, InPhase, InTime, Carries, noted, noted-view, noted-kind, noted-good, stored-view, stored-kind, stored-good}
+use Rattle.client.proofs.EffectLaws.{clash, Taken, RowKnown, row-known, InPhase, InTime, Carries, noted, noted-view, noted-kind, noted-good, stored-view, stored-kind, stored-good}
 use Rattle.client_plan.proofs.MessageLaws.{snapshot-sound, published-sound}
 use Rattle.client_plan.specs.Answers.{effectKind, acceptedKind}
 use Rattle.client_plan.specs.Calls.{Call, snapshot, subscriber}
@@ -90,11 +90,7 @@ module _ (c : Client) (z : SizedTable (c .table)) (msg : Bytes) where
   subscriber-refusal : (t : ℕ) → firstOf (illFormsOf c ++ entryTable c Subscriber msg t) ≡ refusalOf c (subscriber msg t)
   unfolding callChecks view
   subscriber-refusal t =
-      refusal-is c (subscriber msg t) (entryTable c Subscriber msg t) (λ w. rw (as-rows c z (good-client c w) (subscriberEffect (c .header .number .0) (subtreeOf c) (fieldsOf msg) t), not-not (isWaiting (c .header .phase))))
-    where
-      not-not : (b : Bool) → not (not b) ≡ b
-      not-not true = refl
-      not-not false = refl
+      refusal-is c (subscriber msg t) (entryTable c Subscriber msg t) (λ w. rw (as-rows c z (good-client c w) (subscriberEffect (c .header .number .0) (subtreeOf c) (fieldsOf msg) t), Bool·not-not (isWaiting (c .header .phase))))
 
 -- ---- a message that is accepted
 -- the call x hands in the message msg, whose effect is e
@@ -240,9 +236,6 @@ entry-planned c b msg t e b-is p = rw (← b-is) p
 
 -- ---- what a plan says of the checks and of the effect
 module _ (x : Option Refusal) (h : Header) (keys : List Bytes) (e : Effect) {plan : Plan} (is : plan ≡ planOf x (planBy h keys e)) where
-  clash : {A : Type 0} → _≡_ {A = ℕ} 0 1 → A
-  clash z = absurd (omega arith)
-
   goes : (r : Refusal) (f : Effect) → planBy h keys f ≡ Refuse r → ⊥
   goes r (sync key value) p = clash cc
   goes r (finish n) p = clash cc

@@ -1,7 +1,7 @@
 -- Laws of lookup: what the search says, and the value that is held where the key is found. Assumes nothing.
 use Prim.Native.Nat.{ℕ, _≤_, _<_}
 use native.Mathlib.Omega.{arith}
-use mathlib.Core.Bool.{Bool, true, false, not}
+use mathlib.Core.Bool.{not, Bool·not-not}
 use mathlib.Core.List.{List, [], _∷_, _++_}
 use mathlib.Core.Option.{Option, none, some}
 use mathlib.Core.Path.{_≡_, refl, sym, ap, _∙_}
@@ -91,13 +91,9 @@ keyChecks c key = when (not (isKey key)) BadKey ∷ when (isWaiting (c .header .
 abbrev roomCheck : Client → Bytes → ℕ → List (Check Refusal)
 roomCheck c key room = when (ltb room (length (valueUnder key (view c .rows)))) ShortOutput ∷ []
 
-not-not : (b : Bool) → not (not b) ≡ b
-not-not true = refl
-not-not false = refl
-
 lookup-table : (c : Client) (key : Bytes) (room : ℕ) → callChecks (view c) (lookup key room) ≡ keyChecks c key ++ roomCheck c key room
 unfolding callChecks view
-lookup-table c key room = rw (not-not (isWaiting (c .header .phase)))
+lookup-table c key room = rw (Bool·not-not (isWaiting (c .header .phase)))
 
 -- ---- a lookup on a well-formed state, by what the search comes to
 module _ (c : Client) (w : WellFormed c) (z : SizedTable (c .table)) (key : Bytes) {s : Search} (is : s ≡ searchOf (firstOf (keyChecks c key)) (placeOf 0 key (tableKeys (c .table)))) where

@@ -1,6 +1,6 @@
 // The identity frame, which stands in front of a message on its way through the router.
+use frame_writer::frame;
 use frames::read;
-use frames::write;
 ghost use mathlib.Core.Path.{_≡_};
 ghost use Rattle.base.specs.Output.{Written};
 ghost use Rattle.messages.specs.Fields.{identityFrame, withoutIdentity};
@@ -9,7 +9,7 @@ ghost use Rattle.messages.specs.Fields.{identityFrame, withoutIdentity};
 pub fn write_identity(out: &mut [u8], at: usize, identity: &[u8]) -> usize
     ensures { λ r. ⌜ Written (now (out .entry)) at (identityFrame (now (identity .entry))) r (now (out .exit)) ⌝ }
 {
-    write::put_frame(out, at, true, identity)
+    frame::put_frame(out, at, true, identity)
 }
 
 // A message without the identity frame in front of it, as a part.

@@ -2,7 +2,7 @@
 // not fit, the output stays as it is, and at is given back.
 use base::octets;
 use base::output;
-use frames::write;
+use frame_writer::frame;
 use names::numbers::Sequence;
 ghost use mathlib.Core.Path.{_≡_};
 ghost use Prim.Native.Nat.{min};
@@ -14,10 +14,10 @@ ghost use Rattle.messages.specs.Fields.{fields, bytesOf, messageLength, 
 pub fn message_length(head: usize, uuid: usize, properties: usize, value: usize) -> usize
     ensures { λ r. ⌜ r ≡ min (messageLength head uuid properties value) largest ⌝ }
 {
-    let a = output::add_lengths(write::frame_length(head), 10);
-    let b = output::add_lengths(a, write::frame_length(uuid));
-    let c = output::add_lengths(b, write::frame_length(properties));
-    output::add_lengths(c, write::frame_length(value))
+    let a = output::add_lengths(frame::frame_length(head), 10);
+    let b = output::add_lengths(a, frame::frame_length(uuid));
+    let c = output::add_lengths(b, frame::frame_length(properties));
+    output::add_lengths(c, frame::frame_length(value))
 }
 
 // A message of five frames.
@@ -37,11 +37,11 @@ pub fn write_message(
         return at;
     }
     let sequence = octets::octets_of(number.0);
-    let a = write::put_frame(out, at, true, head);
-    let b = write::put_frame(out, a, true, &sequence);
-    let c = write::put_frame(out, b, true, uuid);
-    let d = write::put_frame(out, c, true, properties);
-    write::put_frame(out, d, false, value)
+    let a = frame::put_frame(out, at, true, head);
+    let b = frame::put_frame(out, a, true, &sequence);
+    let c = frame::put_frame(out, b, true, uuid);
+    let d = frame::put_frame(out, c, true, properties);
+    frame::put_frame(out, d, false, value)
 }
 
 // KVSET: an update that a client asks for.
@@ -98,10 +98,10 @@ pub fn write_hugz(out: &mut [u8], at: usize) -> usize
 pub fn write_icanhaz(out: &mut [u8], at: usize, subtree: &[u8]) -> usize
     ensures { λ r. ⌜ Written (now (out .entry)) at (icanhaz (now (subtree .entry))) r (now (out .exit)) ⌝ }
 {
-    let need = output::add_lengths(10, write::frame_length(subtree.len()));
+    let need = output::add_lengths(10, frame::frame_length(subtree.len()));
     if !output::has_room(out.len(), at, need) {
         return at;
     }
-    let next = write::put_frame(out, at, true, b"ICANHAZ?");
-    write::put_frame(out, next, false, subtree)
+    let next = frame::put_frame(out, at, true, b"ICANHAZ?");
+    frame::put_frame(out, next, false, subtree)
 }

@@ -3,7 +3,7 @@ use crate::line;
 use crate::text;
 use base::bytes;
 use base::octets;
-use frames::write;
+use frame_writer::frame;
 
 // Writes the frames of a text as one message, and gives its length.
 pub fn write_frames(s: &[u8], out: &mut [u8]) -> usize {
@@ -25,9 +25,9 @@ pub fn write_frames(s: &[u8], out: &mut [u8]) -> usize {
 fn write_frame(s: &[u8], out: &mut [u8], at: usize, more: bool) -> usize {
     if bytes::starts_with(s, b"#") {
         let eight = octets::octets_of(line::number(bytes::behind(s, 1)));
-        return write::put_frame(out, at, more, &eight);
+        return frame::put_frame(out, at, more, &eight);
     }
     let mut body = [0; 512];
     let n = text::decode(s, &mut body);
-    write::put_frame(out, at, more, bytes::front(&body, n))
+    frame::put_frame(out, at, more, bytes::front(&body, n))
 }

@@ -1,6 +1,6 @@
 // The snapshot of a subtree: a KVSYNC for each row under it, in key order, then KTHXBAI, each behind the identity frame.
 use base::output;
-use frames::write;
+use frame_writer::frame;
 use messages::identity;
 use messages::write as message;
 use names::keys;
@@ -31,7 +31,7 @@ pub fn snapshot_length<'a>(
     // As slices the columns tell how many they hold.
     let key_column: &[u64] = key_lengths;
     let value_column: &[u64] = value_lengths;
-    let front = write::frame_length(identity);
+    let front = frame::frame_length(identity);
     let mut total = output::add_lengths(front, message::message_length(7, 0, 0, subtree.len()));
     let mut i = count;
     while 0 < i {

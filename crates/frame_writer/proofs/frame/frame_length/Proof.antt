@@ -1,9 +1,9 @@
--- `frames::write::frame_length` meets its contract, by the two sizes of a head. Assumes nothing.
+-- `frame_writer::frame::frame_length` meets its contract, by the two sizes of a head. Assumes nothing.
 use native.Mathlib.Omega.{arith}
 use borrow.Author.Needs.{needs}
 use borrow.Author.Tests.{le-leb, lt-leb}
-use Rattle.frames.proofs.write.frame_length.Statement.{statement}
-use Rattle.frames.proofs.write.frame_length.Tie as tie
+use Rattle.frame_writer.proofs.frame.frame_length.Statement.{statement}
+use Rattle.frame_writer.proofs.frame.frame_length.Tie as tie
 
 add-lengths-requires : tie.Need-add-lengths-requires
 add-lengths-requires c κs = search needs

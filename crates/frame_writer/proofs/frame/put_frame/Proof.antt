@@ -1,4 +1,4 @@
--- `frames::write::put_frame` meets its contract: there is room for the head and the body, or nothing is touched. Assumes nothing.
+-- `frame_writer::frame::put_frame` meets its contract: there is room for the head and the body, or nothing is touched. Assumes nothing.
 use Prim.Native.Nat.{_+_, _≤_}
 use native.Mathlib.Omega.{arith}
 use mathlib.Core.Path.{_≡_}
@@ -7,10 +7,10 @@ use lib.ListN.{length}
 use borrow.Author.Needs.{needs}
 use denote.Ref.{now}
 use Rattle.base.proofs.OutputLaws.{has-room, lacks-room, no-room, both}
 use Rattle.frames.proofs.FrameLaws.{frame-room}
 use Rattle.frames.specs.Messages.{frame}
-use Rattle.frames.proofs.write.put_frame.Statement.{statement}
-use Rattle.frames.proofs.write.put_frame.Tie as tie
+use Rattle.frame_writer.proofs.frame.put_frame.Statement.{statement}
+use Rattle.frame_writer.proofs.frame.put_frame.Tie as tie
 
 room-told : (c : tie.After-has-room) → c .has-room .result ≡ leb (c .before .before .before .before .args .at + length (frame (c .before .before .before .before .args .more) (now (c .before .before .before .before .args .body)))) (length (now (c .before .before .before .before .args .out)))
 room-told c = frame-room (length (now (c .before .before .before .before .args .out))) (c .before .before .before .before .args .at) (c .before .frame-length .result) (c .before .before .before .before .args .more) (now (c .before .before .before .before .args .body)) (omega arith) (c .before .frame-length .ensures) (c .has-room .ensures)

@@ -1,10 +1,10 @@
--- `frames::write::put_header` meets its contract: a short head is two bytes and a long one nine. Assumes nothing.
+-- `frame_writer::frame::put_header` meets its contract: a short head is two bytes and a long one nine. Assumes nothing.
 use borrow.Author.Needs.{needs}
 use borrow.Author.Tests.{le-leb, lt-leb}
 use Rattle.base.specs.Octets.{octets}
 use Rattle.frames.proofs.FrameLaws.{listed-octets}
-use Rattle.frames.proofs.write.put_header.Statement.{statement}
-use Rattle.frames.proofs.write.put_header.Tie as tie
+use Rattle.frame_writer.proofs.frame.put_header.Statement.{statement}
+use Rattle.frame_writer.proofs.frame.put_header.Tie as tie
 
 flag-requires : tie.Need-flag-requires
 flag-requires c κs = search needs

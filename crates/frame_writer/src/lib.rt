@@ -1,0 +1,2 @@
+// Writing frames into lent output.
+pub mod frame;
