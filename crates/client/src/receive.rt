@@ -12,7 +12,6 @@ use messages::VALUE;
 use names::numbers::Tick;
 use table::change;
 use table::row;
-use table::text;
 ghost use mathlib.Core.List.{[]};
 ghost use Rattle.client_plan.specs.Entries.{received};
 ghost use Rattle.client_plan.specs.Promises.{Answered};
@@ -38,42 +37,29 @@ pub(crate) fn receive(mut c: Client, entry: Entry, msg: &[u8], tick: Tick) -> Re
         tick,
     ) {
         Plan::Refuse(r) => {
-            return Reply {
-                state: c,
-                answer: answer::without_output(Kind::Refused(r, number)),
-            };
+            let answer = answer::without_output(Kind::Refused(r, number));
+            return Reply { state: c, answer };
         }
         Plan::Note(after, kind) => {
             c.header = after;
-            return Reply {
-                state: c,
-                answer: answer::without_output(kind),
-            };
+            let answer = answer::without_output(kind);
+            return Reply { state: c, answer };
         }
         Plan::Store(change, after, kind) => {
-            let key = read::body(msg, HEAD);
-            let value = read::body(msg, VALUE);
-            let fresh = row::fresh_row(key, value);
+            let fresh = row::fresh_row(read::body(msg, HEAD), read::body(msg, VALUE));
             change::change_keys(&mut c.table.keys, change, count, &fresh.key);
             change::change_values(&mut c.table.values, change, count, &fresh.value);
-            change::change_numbers(
-                &mut c.table.key_lengths,
-                change,
-                count,
-                text::count_of(key.len()),
-            );
+            change::change_numbers(&mut c.table.key_lengths, change, count, fresh.key_length);
             change::change_numbers(
                 &mut c.table.value_lengths,
                 change,
                 count,
-                text::count_of(value.len()),
+                fresh.value_length,
             );
             c.table.count = change::count_after(change, count);
             c.header = after;
-            Reply {
-                state: c,
-                answer: answer::without_output(kind),
-            }
+            let answer = answer::without_output(kind);
+            Reply { state: c, answer }
         }
     }
 }

@@ -13,12 +13,10 @@ use properties::read::Properties;
 use server_plan::Reply;
 use server_plan::kvset::Plan;
 use server_plan::number;
-use server_state::Header;
 use server_state::NEVER;
 use server_state::Server;
 use table::change;
 use table::row;
-use table::text;
 ghost use mathlib.Core.Bool.{true};
 ghost use mathlib.Core.Path.{_≡_};
 ghost use Prim.Native.Nat.{_≤_};
@@ -50,7 +48,7 @@ pub fn kvset(mut s: Server, msg: &[u8], tick: Tick, out: &mut [u8]) -> Reply
     ensures { λ r. ⌜ Answered s (asked (now (msg .entry)) (tick .0) (length (now (out .entry)))) (now (out .entry)) r (now (out .exit)) ⌝ }
 {
     let count = s.table.count;
-    let header = s.header;
+    let mut header = s.header;
     let last = header.number;
     match server_plan::kvset::plan_kvset(
         &s.table.keys,
@@ -65,53 +63,35 @@ pub fn kvset(mut s: Server, msg: &[u8], tick: Tick, out: &mut [u8]) -> Reply
         out.len(),
     ) {
         Plan::Refuse(r) => {
-            return Reply {
-                state: s,
-                answer: answer::without_output(Kind::Refused(r, last)),
-            };
+            let answer = answer::without_output(Kind::Refused(r, last));
+            return Reply { state: s, answer };
         }
         Plan::Go(change) => {
             let key = read::body(msg, HEAD);
+            let uuid = read::body(msg, UUID);
             let properties = read::body(msg, PROPERTIES);
             let value = read::body(msg, VALUE);
             let fresh = row::fresh_row(key, value);
             let number = number::next_number(last);
             change::change_keys(&mut s.table.keys, change, count, &fresh.key);
             change::change_values(&mut s.table.values, change, count, &fresh.value);
-            change::change_numbers(
-                &mut s.table.key_lengths,
-                change,
-                count,
-                text::count_of(key.len()),
-            );
+            change::change_numbers(&mut s.table.key_lengths, change, count, fresh.key_length);
             change::change_numbers(
                 &mut s.table.value_lengths,
                 change,
                 count,
-                text::count_of(value.len()),
+                fresh.value_length,
             );
             change::change_numbers(&mut s.numbers, change, count, number.0);
             change::change_numbers(&mut s.expiries, change, count, expiry_at(tick, properties));
             s.table.count = change::count_after(change, count);
-            let after = Header {
-                number,
-                last_tick: tick,
-                last_published: tick,
-            };
-            s.header = after;
-            let written = write::write_kvpub(
-                out,
-                0,
-                number,
-                key,
-                read::body(msg, UUID),
-                properties,
-                value,
-            );
-            Reply {
-                state: s,
-                answer: answer::with_output(Kind::Wrote(number), written),
-            }
+            header.number = number;
+            header.last_tick = tick;
+            header.last_published = tick;
+            s.header = header;
+            let written = write::write_kvpub(out, 0, number, key, uuid, properties, value);
+            let answer = answer::with_output(Kind::Wrote(number), written);
+            Reply { state: s, answer }
         }
     }
 }

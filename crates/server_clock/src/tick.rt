@@ -6,7 +6,6 @@ use names::numbers::Tick;
 use server_plan::Reply;
 use server_plan::number;
 use server_plan::tick::Step;
-use server_state::Header;
 use server_state::Server;
 use table::change;
 use table::change::Change;
@@ -20,9 +19,8 @@ pub fn tick(mut s: Server, tick: Tick, out: &mut [u8]) -> Reply
     ensures { λ r. ⌜ Answered s (told (tick .0) (length (now (out .entry)))) (now (out .entry)) r (now (out .exit)) ⌝ }
 {
     let count = s.table.count;
-    let header = s.header;
+    let mut header = s.header;
     let last = header.number;
-    let published = header.last_published;
     match server_plan::tick::plan_tick(
         &s.table.keys,
         &s.table.key_lengths,
@@ -35,10 +33,8 @@ pub fn tick(mut s: Server, tick: Tick, out: &mut [u8]) -> Reply
         out.len(),
     ) {
         Step::Refuse(r) => {
-            return Reply {
-                state: s,
-                answer: answer::without_output(Kind::Refused(r, last)),
-            };
+            let answer = answer::without_output(Kind::Refused(r, last));
+            return Reply { state: s, answer };
         }
         Step::Expire(i) => {
             let number = number::next_number(last);
@@ -54,41 +50,26 @@ pub fn tick(mut s: Server, tick: Tick, out: &mut [u8]) -> Reply
             change::change_numbers(&mut s.numbers, gone, count, 0);
             change::change_numbers(&mut s.expiries, gone, count, 0);
             s.table.count = change::count_after(gone, count);
-            let after = Header {
-                number,
-                last_tick: tick,
-                last_published: tick,
-            };
-            s.header = after;
-            return Reply {
-                state: s,
-                answer: answer::with_output(Kind::Wrote(number), written),
-            };
+            header.number = number;
+            header.last_tick = tick;
+            header.last_published = tick;
+            s.header = header;
+            let answer = answer::with_output(Kind::Wrote(number), written);
+            return Reply { state: s, answer };
         }
         Step::Beat => {
             let written = write::write_hugz(out, 0);
-            let after = Header {
-                number: last,
-                last_tick: tick,
-                last_published: tick,
-            };
-            s.header = after;
-            return Reply {
-                state: s,
-                answer: answer::with_output(Kind::Wrote(last), written),
-            };
+            header.last_tick = tick;
+            header.last_published = tick;
+            s.header = header;
+            let answer = answer::with_output(Kind::Wrote(last), written);
+            return Reply { state: s, answer };
         }
         Step::Quiet => {
-            let after = Header {
-                number: last,
-                last_tick: tick,
-                last_published: published,
-            };
-            s.header = after;
-            Reply {
-                state: s,
-                answer: answer::without_output(Kind::Nothing(last)),
-            }
+            header.last_tick = tick;
+            s.header = header;
+            let answer = answer::without_output(Kind::Nothing(last));
+            Reply { state: s, answer }
         }
     }
 }

@@ -238,8 +238,8 @@ pub numbers-replace : {change : Change} {i : ℕ} (n x : ℕ) (old : List ℕ) �
     → take (countAfter change n) (set old i x) ≡ changed change x (take n old)
 numbers-replace {change} {i} n x old h e = by-replace take n x old (set old i x) e (take-set-lt n old i x (fits-replace e h .0))
 
--- ---- bytes written at the start of a cell that has room for them
-pub written-front : (d xs : Bytes) {i : ℕ} {o : Bytes} → length xs ≤ length d → Written d 0 xs i o → take (length xs) o ≡ xs
+-- ---- bytes written at the start of a cell that has room for them, and counted
+pub written-front : (d xs : Bytes) {i n : ℕ} {o : Bytes} → length xs ≤ length d → Written d 0 xs i o → n ≡ length xs → take n o ≡ xs
 unfolding put
-written-front d xs h w =
-    ap (take (length xs)) (output w (omega arith)) ∙ take-append-seam xs (drop (0 + length xs) d)
+written-front d xs {o = o} h w counted =
+    ap (λ (n : ℕ). take n o) counted ∙ ap (take (length xs)) (output w (omega arith)) ∙ take-append-seam xs (drop (0 + length xs) d)

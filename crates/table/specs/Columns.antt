@@ -9,6 +9,7 @@ use Rattle.base.specs.Bytes.{Bytes, every}
 use Rattle.cells.specs.Cells.{cells}
 use Rattle.rows.specs.Rows.{Rows}
 use Rattle.table.specs.declared.Table.{Table}
+use Rattle.table.specs.declared.row.Row.{Row}
 
 -- the first n texts of a column: cells of s bytes, of which as many count as their length says
 unfoldable pub texts : ℕ → ℕ → List ℕ → Bytes → List Bytes
@@ -27,6 +28,13 @@ tableKeys t = texts 96 (t .count) (t .«key_lengths») (t .keys)
 
 abbrev pub tableValues : Table → List Bytes
 tableValues t = texts 256 (t .count) (t .«value_lengths») (t .values)
+
+-- a row that is to be stored holds a key and a value, in cells of which as many bytes count as its lengths say
+pub record Holds (r : Row) (k v : Bytes) : Type 0 where
+  pub key : take (r .«key_length») (r .key) ≡ k
+  pub value : take (r .«value_length») (r .value) ≡ v
+  pub key-length : r .«key_length» ≡ length k
+  pub value-length : r .«value_length» ≡ length v
 
 -- how long the columns are, as in every table
 pub record SizedTable (t : Table) : Type 0 where

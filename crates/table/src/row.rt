@@ -1,18 +1,21 @@
-// A fresh row: a key and a value in cells of their own, zero behind them.
+// A fresh row: a key and a value in cells of their own, zero behind them, and their lengths.
+use crate::text;
 use base::output;
-ghost use mathlib.Core.Path.{_≡_};
 ghost use Prim.Native.Nat.{_≤_};
-ghost use lib.ListN.{length, take};
+ghost use lib.ListN.{length};
+ghost use Rattle.table.specs.Columns.{Holds};
 
 pub struct Row {
     pub key: [u8; 96],
     pub value: [u8; 256],
+    pub key_length: u64,
+    pub value_length: u64,
 }
 
 // The row of a key and a value.
 pub fn fresh_row(key: &[u8], value: &[u8]) -> Row
     requires { ⌜ (length (now key) ≤ 96) × (length (now value) ≤ 256) ⌝ }
-    ensures { λ r. ⌜ (take (length (now (key .entry))) (r .key) ≡ now (key .entry)) × (take (length (now (value .entry))) (r .value) ≡ now (value .entry)) ⌝ }
+    ensures { λ r. ⌜ Holds r (now (key .entry)) (now (value .entry)) ⌝ }
 {
     let mut key_cell = [0; 96];
     let mut value_cell = [0; 256];
@@ -21,5 +24,7 @@ pub fn fresh_row(key: &[u8], value: &[u8]) -> Row
     Row {
         key: key_cell,
         value: value_cell,
+        key_length: text::count_of(key.len()),
+        value_length: text::count_of(value.len()),
     }
 }

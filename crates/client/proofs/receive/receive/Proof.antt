@@ -1,10 +1,9 @@
 -- `client::receive::receive` meets its contract: what was planned is noted in the header and stored in every column. Assumes nothing.
-use Prim.Native.Nat.{ℕ}
 use native.Mathlib.Omega.{arith}
 use mathlib.Core.List.{List, _++_}
 use mathlib.Core.Option.{none}
 use mathlib.Core.Path.{_≡_, refl, sym, ap, _∙_}
-use lib.ListN.{length, take}
+use lib.ListN.{length}
 use denote.Ref.{now}
 use Rattle.answers.specs.declared.refusal.Refusal.{Refusal}
 use Rattle.base.specs.Checks.{Check, firstOf}
@@ -103,8 +102,8 @@ body-requires-2 c κs = search needs
 
 fresh-row-requires : tie.Need-fresh-row-requires
 fresh-row-requires c κs =
-    let s = c .before .before .before .before .before .before .before .before .before .before .before .before .before .before .before in
     let g = c .before .before .before in
+    let s = begin (g .before .before) in
     let m = message s (stores g .0) in
     (key-fits (s .args .t1) (received (s .args .entry) (now (s .args .msg)) (s .args .tick .0)) (now (s .args .msg)) (effect s) m (sized s) _ _ _ (stores g .1) (c .before .body .ensures), value-fits (s .args .t1) (received (s .args .entry) (now (s .args .msg)) (s .args .tick .0)) (now (s .args .msg)) (effect s) m (sized s) _ _ _ (stores g .1) (c .body2 .ensures))
 
@@ -114,45 +113,41 @@ change-keys-requires c κs = row (c .before .before .before .before .before .bef
 change-values-requires : tie.Need-change-values-requires
 change-values-requires c κs = row (c .before .before .before .before .before .before .before .before .before .before .before) .fits
 
-count-of-requires : tie.Need-count-of-requires
-count-of-requires c κs = search needs
-
 change-numbers-requires : tie.Need-change-numbers-requires
-change-numbers-requires c κs = row (c .before .before .before .before .before .before .before .before .before .before .before .before .before .before) .fits
-
-count-of-requires-2 : tie.Need-count-of-requires-2
-count-of-requires-2 c κs = search needs
+change-numbers-requires c κs = row (c .before .before .before .before .before .before .before .before .before .before .before .before .before) .fits
 
 change-numbers-requires-2 : tie.Need-change-numbers-requires-2
-change-numbers-requires-2 c κs = row (c .before .before .before .before .before .before .before .before .before .before .before .before .before .before .before .before .before) .fits
+change-numbers-requires-2 c κs = row (c .before .before .before .before .before .before .before .before .before .before .before .before .before .before .before) .fits
 
 count-after-requires : tie.Need-count-after-requires
-count-after-requires c κs = row (c .before .before .before .before .before .before .before .before .before .before .before .before .before .before .before .before .before .before) .fits
+count-after-requires c κs = row (c .before .before .before .before .before .before .before .before .before .before .before .before .before .before .before .before) .fits
 
 without-output-requires-3 : tie.Need-without-output-requires-3
 without-output-requires-3 c κs = search needs
 
 returns-3 : tie.Need-returns-3
 returns-3 c =
-    let s = c .before .before .before .before .before .before .before .before .before .before .before .before .before .before .before .before .before .before .before .before .before .before .before .before .before .before .before .before .before .before .before .before .before in
-    let g = c .before .before .before .before .before .before .before .before .before .before .before .before .before .before .before .before .before .before .before .before .before in
+    let lengths2 = c .before .before .before in
+    let lengths = lengths2 .before .before in
+    let values = lengths .before .before in
+    let keys = values .before .before .before .before in
+    let fresh = keys .before .before .before .before in
+    let g = fresh .before .before .before .before in
+    let s = begin (g .before .before) in
     let m = message s (stores g .0) in
-    let key-is = c .before .before .before .before .before .before .before .before .before .before .before .before .before .before .before .before .before .before .before .body .ensures ∙ m .frames 0 (omega arith) in
-    let value-is = c .before .before .before .before .before .before .before .before .before .before .before .before .before .before .before .before .before .before .body2 .ensures ∙ m .frames 4 (omega arith) in
-    let fresh = c .before .before .before .before .before .before .before .before .before .before .before .before .before .before .before .before .before .fresh-row in
-    let i = c .before .before .before .before .before .before .before .count-of in
-    let j = c .before .before .before .before .count-of2 in
+    let key-is = fresh .before .before .body .ensures ∙ m .frames 0 (omega arith) in
+    let value-is = fresh .before .body2 .ensures ∙ m .frames 4 (omega arith) in
     message-stored (s .args .t1) (received (s .args .entry) (now (s .args .msg)) (s .args .tick .0)) (now (s .args .msg)) (effect s) m _ _ _ (c .without-output3 .ensures) (sized s) _ (stores g .1)
     (record {
-      of-keys = c .before .before .before .before .before .before .before .before .before .before .before .before .before .change-keys .ensures;
-      of-values = c .before .before .before .before .before .before .before .before .before .change-values .ensures;
-      of-key-lengths = c .before .before .before .before .before .before .change-numbers .ensures;
-      of-value-lengths = c .before .before .before .change-numbers2 .ensures;
+      of-keys = keys .change-keys .ensures;
+      of-values = values .change-values .ensures;
+      of-key-lengths = lengths .change-numbers .ensures;
+      of-value-lengths = lengths2 .change-numbers2 .ensures;
       of-count = c .before .before .count-after .ensures;
     })
     refl refl refl
-    (ap (λ (n : ℕ). take n (fresh .result .key)) (i .ensures) ∙ fresh .ensures .0 ∙ key-is) (i .ensures ∙ ap length key-is)
-    (ap (λ (n : ℕ). take n (fresh .result .value)) (j .ensures) ∙ fresh .ensures .1 ∙ value-is) (j .ensures ∙ ap length value-is)
+    (fresh .fresh-row .ensures .key ∙ key-is) (fresh .fresh-row .ensures .key-length ∙ ap length key-is)
+    (fresh .fresh-row .ensures .value ∙ value-is) (fresh .fresh-row .ensures .value-length ∙ ap length value-is)
 
 pub receive-spec : {M : Type 1} → statement M
 receive-spec =
@@ -172,9 +167,7 @@ receive-spec =
     fresh-row-requires
     change-keys-requires
     change-values-requires
-    count-of-requires
     change-numbers-requires
-    count-of-requires-2
     change-numbers-requires-2
     count-after-requires
     without-output-requires-3

@@ -1,7 +1,5 @@
 -- `client::start::waiting` meets its contract: the subtree stands at the front of a cell of zeros. Assumes nothing.
-use Prim.Native.Nat.{ℕ}
-use mathlib.Core.Path.{refl, ap, _∙_}
-use lib.ListN.{take}
+use mathlib.Core.Path.{refl}
 use denote.Ref.{now}
 use Rattle.table.proofs.ChangeLaws.{written-front}
 use borrow.Author.Needs.{needs}
@@ -20,7 +18,7 @@ count-of-requires c κs = search needs
 returns : tie.Need-returns
 returns c =
     let s = c .before .before .before .before .before in
-    (refl, (refl, (c .count-of .ensures, ap (λ (n : ℕ). take n (c .before .before .put-bytes .last .0)) (c .count-of .ensures) ∙ written-front _ (now (s .args .subtree)) (s .pre) (c .before .before .put-bytes .ensures))))
+    (refl, (refl, (c .count-of .ensures, written-front _ (now (s .args .subtree)) (s .pre) (c .before .before .put-bytes .ensures) (c .count-of .ensures))))
 
 pub waiting-spec : {M : Type 1} → statement M
 waiting-spec =

@@ -1,6 +1,5 @@
 -- `server::kvset::kvset` meets its contract: the checks come to a plan, and what is planned is made in every column and published.
 -- Assumes nothing.
-use Prim.Native.Nat.{ℕ}
 use native.Mathlib.Omega.{arith}
 use mathlib.Core.List.{List, _++_}
 use mathlib.Core.Option.{none, some}
@@ -40,24 +39,31 @@ table s = illFormsOf (s .args .t1) ++ kvsetTable (s .args .t1) (now (s .args .ms
 abbrev change : tie.Start → Change
 change s = changeTo (isNil (frameAt 4 (now (s .args .msg)))) (placeOf 0 (frameAt 0 (now (s .args .msg))) (keysOf (s .args .t1)))
 
+-- where the function begins
+abbrev begin : tie.After-plan-kvset → tie.Start
+begin p = p .before .before .before .before .before .before .before .before .before .before .before
+
 -- ---- a plan that goes on
-passed : (c : tie.After-change) → firstOf (table (c .before .before .before .before .before .before .before .before .before .before .before .before .before)) ≡ none
-unfolding illFormsOf
-passed c = goes-on (firstOf (table (c .before .before .before .before .before .before .before .before .before .before .before .before .before))) (change (c .before .before .before .before .before .before .before .before .before .before .before .before .before)) (c .before .before .plan-kvset .ensures) (c .change .given .1)
+abbrev start : tie.After-change → tie.Start
+start c = begin (c .before .before)
 
-planned : (c : tie.After-change) → c .change .given .0 .0 ≡ change (c .before .before .before .before .before .before .before .before .before .before .before .before .before)
+passed : (c : tie.After-change) → firstOf (table (start c)) ≡ none
 unfolding illFormsOf
-planned c = goes-with (firstOf (table (c .before .before .before .before .before .before .before .before .before .before .before .before .before))) (change (c .before .before .before .before .before .before .before .before .before .before .before .before .before)) (c .before .before .plan-kvset .ensures) (c .change .given .1)
+passed c = goes-on (firstOf (table (start c))) (change (start c)) (c .before .before .plan-kvset .ensures) (c .change .given .1)
 
-fit : (c : tie.After-change) → Fits (c .change .given .0 .0) (c .before .before .before .before .before .before .before .before .before .before .before .before .before .args .t1 .table .count)
+planned : (c : tie.After-change) → c .change .given .0 .0 ≡ change (start c)
+unfolding illFormsOf
+planned c = goes-with (firstOf (table (start c))) (change (start c)) (c .before .before .plan-kvset .ensures) (c .change .given .1)
+
+fit : (c : tie.After-change) → Fits (c .change .given .0 .0) (start c .args .t1 .table .count)
 fit c =
-    let s = c .before .before .before .before .before .before .before .before .before .before .before .before .before in
+    let s = start c in
     rw (planned c) (change-is-fit (s .args .t1) (sized s) (now (s .args .msg)) (s .args .tick .0) (length (now (s .args .out))) (passed c))
 
 -- a plan that does not
-stopped : (c : tie.After-plan-kvset) {r : Refusal} → c .plan-kvset .result ≡ Refuse r → firstOf (table (c .before .before .before .before .before .before .before .before .before .before .before)) ≡ some r
+stopped : (c : tie.After-plan-kvset) {r : Refusal} → c .plan-kvset .result ≡ Refuse r → firstOf (table (begin c)) ≡ some r
 unfolding illFormsOf
-stopped c e = stops-with (firstOf (table (c .before .before .before .before .before .before .before .before .before .before .before))) (change (c .before .before .before .before .before .before .before .before .before .before .before)) (c .plan-kvset .ensures) e
+stopped c e = stops-with (firstOf (table (begin c))) (change (begin c)) (c .plan-kvset .ensures) e
 
 plan-kvset-requires : tie.Need-plan-kvset-requires
 plan-kvset-requires c κs = search needs
@@ -67,6 +73,12 @@ enum-known-r c = search needs
 
 without-output-requires : tie.Need-without-output-requires
 without-output-requires c κs = search needs
+
+returns : tie.Need-returns
+returns c =
+    let p = c .before .before .before .before in
+    let s = begin p in
+    refused-call (s .args .t1) (kvset (now (s .args .msg)) (s .args .tick .0) (length (now (s .args .out)))) _ _ _ (sym (kvset-refusal (s .args .t1) (sized s) (now (s .args .msg)) (s .args .tick .0) (length (now (s .args .out)))) ∙ stopped p (c .before .before .r .given .1)) refl (c .without-output .ensures)
 
 enum-known-change : tie.Need-enum-known-change
 enum-known-change c = search needs
@@ -80,54 +92,48 @@ body-requires-2 c κs = search needs
 body-requires-3 : tie.Need-body-requires-3
 body-requires-3 c κs = search needs
 
+body-requires-4 : tie.Need-body-requires-4
+body-requires-4 c κs = search needs
+
 fresh-row-requires : tie.Need-fresh-row-requires
 fresh-row-requires c κs =
-    let g = c .before .before .before .before in
-    let s = g .before .before .before .before .before .before .before .before .before .before .before .before .before in
+    let g = c .before .before .before .before .before in
+    let s = start g in
     let f = frames-are (s .args .t1) (sized s) (now (s .args .msg)) (s .args .tick .0) (length (now (s .args .out))) (passed g) in
-    (rw (c .before .before .body .ensures, f 0 (omega arith)) (key-short (s .args .t1) (sized s) (now (s .args .msg)) (s .args .tick .0) (length (now (s .args .out))) (passed g)), rw (c .body3 .ensures, f 4 (omega arith)) (value-short (s .args .t1) (sized s) (now (s .args .msg)) (s .args .tick .0) (length (now (s .args .out))) (passed g)))
+    (rw (c .before .before .before .body .ensures, f 0 (omega arith)) (key-short (s .args .t1) (sized s) (now (s .args .msg)) (s .args .tick .0) (length (now (s .args .out))) (passed g)), rw (c .body4 .ensures, f 4 (omega arith)) (value-short (s .args .t1) (sized s) (now (s .args .msg)) (s .args .tick .0) (length (now (s .args .out))) (passed g)))
 
 next-number-requires : tie.Need-next-number-requires
 next-number-requires c κs =
-    let g = c .before .before .before .before .before in
-    let s = g .before .before .before .before .before .before .before .before .before .before .before .before .before in
+    let g = c .before .before .before .before .before .before in
+    let s = start g in
     number-left (s .args .t1) (sized s) (now (s .args .msg)) (s .args .tick .0) (length (now (s .args .out))) (passed g)
 
 change-keys-requires : tie.Need-change-keys-requires
-change-keys-requires c κs = fit (c .before .before .before .before .before .before .before .before .before)
+change-keys-requires c κs = fit (c .before .before .before .before .before .before .before .before .before .before)
 
 change-values-requires : tie.Need-change-values-requires
-change-values-requires c κs = fit (c .before .before .before .before .before .before .before .before .before .before .before .before .before)
-
-count-of-requires : tie.Need-count-of-requires
-count-of-requires c κs = search needs
+change-values-requires c κs = fit (c .before .before .before .before .before .before .before .before .before .before .before .before .before .before)
 
 change-numbers-requires : tie.Need-change-numbers-requires
 change-numbers-requires c κs = fit (c .before .before .before .before .before .before .before .before .before .before .before .before .before .before .before .before)
 
-count-of-requires-2 : tie.Need-count-of-requires-2
-count-of-requires-2 c κs = search needs
-
 change-numbers-requires-2 : tie.Need-change-numbers-requires-2
-change-numbers-requires-2 c κs = fit (c .before .before .before .before .before .before .before .before .before .before .before .before .before .before .before .before .before .before .before)
+change-numbers-requires-2 c κs = fit (c .before .before .before .before .before .before .before .before .before .before .before .before .before .before .before .before .before .before)
 
 change-numbers-requires-3 : tie.Need-change-numbers-requires-3
-change-numbers-requires-3 c κs = fit (c .before .before .before .before .before .before .before .before .before .before .before .before .before .before .before .before .before .before .before .before .before)
+change-numbers-requires-3 c κs = fit (c .before .before .before .before .before .before .before .before .before .before .before .before .before .before .before .before .before .before .before .before)
 
 expiry-at-requires : tie.Need-expiry-at-requires
 expiry-at-requires c κs =
-    let g = c .before .before .before .before .before .before .before .before .before .before .before .before .before .before .before .before .before .before .before .before .before .before .before in
-    let s = g .before .before .before .before .before .before .before .before .before .before .before .before .before in
+    let g = c .before .before .before .before .before .before .before .before .before .before .before .before .before .before .before .before .before .before .before .before .before .before in
+    let s = start g in
     in-time (s .args .t1) (sized s) (now (s .args .msg)) (s .args .tick .0) (length (now (s .args .out))) (passed g)
 
 change-numbers-requires-4 : tie.Need-change-numbers-requires-4
-change-numbers-requires-4 c κs = fit (c .before .before .before .before .before .before .before .before .before .before .before .before .before .before .before .before .before .before .before .before .before .before .before .before)
+change-numbers-requires-4 c κs = fit (c .before .before .before .before .before .before .before .before .before .before .before .before .before .before .before .before .before .before .before .before .before .before .before)
 
 count-after-requires : tie.Need-count-after-requires
-count-after-requires c κs = fit (c .before .before .before .before .before .before .before .before .before .before .before .before .before .before .before .before .before .before .before .before .before .before .before .before .before)
-
-body-requires-4 : tie.Need-body-requires-4
-body-requires-4 c κs = search needs
+count-after-requires c κs = fit (c .before .before .before .before .before .before .before .before .before .before .before .before .before .before .before .before .before .before .before .before .before .before .before .before)
 
 write-kvpub-requires : tie.Need-write-kvpub-requires
 write-kvpub-requires c κs = search needs
@@ -135,50 +141,50 @@ write-kvpub-requires c κs = search needs
 with-output-requires : tie.Need-with-output-requires
 with-output-requires c κs = search needs
 
-returns : tie.Need-returns
-returns c =
-    let p = c .before .before .before .before in
-    let s = p .before .before .before .before .before .before .before .before .before .before .before in
-    refused-call (s .args .t1) (kvset (now (s .args .msg)) (s .args .tick .0) (length (now (s .args .out)))) _ _ _ (sym (kvset-refusal (s .args .t1) (sized s) (now (s .args .msg)) (s .args .tick .0) (length (now (s .args .out)))) ∙ stopped p (c .before .before .r .given .1)) refl (c .without-output .ensures)
-
 same-length : tie.Need-same-length
 same-length c = search needs
 
 returns-2 : tie.Need-returns-2
 returns-2 c =
-    let g = (c .before .before .before .before .before .before .before .before .before .before .before .before .before .before .before .before .before .before .before .before .before .before .before .before .before .before .before .before .before .before .before .before .before) in
-    let s = g .before .before .before .before .before .before .before .before .before .before .before .before .before in
+    let written = c .before .before .before in
+    let expiries = c .before .before .before .before .before .before .before in
+    let numbers = expiries .before .before .before in
+    let lengths2 = numbers .before .before in
+    let lengths = lengths2 .before .before in
+    let values = lengths .before .before in
+    let keys = values .before .before .before .before in
+    let next = keys .before .before .before .before in
+    let fresh = next .before in
+    let value = fresh .before in
+    let g = value .before .before .before .before .before in
+    let s = start g in
     let a = s .args in
     let f = frames-are (a .t1) (sized s) (now (a .msg)) (a .tick .0) (length (now (a .out))) (passed g) in
-    let key-is = (c .before .before .before .before .before .before .before .before .before .before .before .before .before .before .before .before .before .before .before .before .before .before .before .before .before .before .before .before .before .before .before) .body .ensures ∙ f 0 (omega arith) in
-    let properties-is = (c .before .before .before .before .before .before .before .before .before .before .before .before .before .before .before .before .before .before .before .before .before .before .before .before .before .before .before .before .before .before) .body2 .ensures ∙ f 3 (omega arith) in
-    let value-is = (c .before .before .before .before .before .before .before .before .before .before .before .before .before .before .before .before .before .before .before .before .before .before .before .before .before .before .before .before .before) .body3 .ensures ∙ f 4 (omega arith) in
-    let uuid-is = (c .before .before .before .before) .body4 .ensures ∙ f 2 (omega arith) in
-    let fresh = (c .before .before .before .before .before .before .before .before .before .before .before .before .before .before .before .before .before .before .before .before .before .before .before .before .before .before .before .before) .fresh-row in
-    let number = (c .before .before .before .before .before .before .before .before .before .before .before .before .before .before .before .before .before .before .before .before .before .before .before .before .before .before .before) .next-number in
-    let k = (c .before .before .before .before .before .before .before .before .before .before .before .before .before .before .before .before .before) .count-of in
-    let v = (c .before .before .before .before .before .before .before .before .before .before .before .before .before .before) .count-of2 in
-    let lasts = (c .before .before .before .before .before .before .before .before .before) .expiry-at in
-    let written = (c .before .before .before) .write-kvpub in
+    let key-is = value .before .before .before .body .ensures ∙ f 0 (omega arith) in
+    let uuid-is = value .before .before .body2 .ensures ∙ f 2 (omega arith) in
+    let properties-is = value .before .body3 .ensures ∙ f 3 (omega arith) in
+    let value-is = value .body4 .ensures ∙ f 4 (omega arith) in
+    let number = next .next-number in
+    let lasts = expiries .before .expiry-at in
     let made = g .change .given .0 .0 in
     kvset-done (a .t1) (sized s) (now (a .msg)) (a .tick .0) (length (now (a .out))) (passed g) made (planned g) _
     (record {
       table = record {
-        of-keys = (c .before .before .before .before .before .before .before .before .before .before .before .before .before .before .before .before .before .before .before .before .before .before .before) .change-keys .ensures;
-        of-values = (c .before .before .before .before .before .before .before .before .before .before .before .before .before .before .before .before .before .before .before) .change-values .ensures;
-        of-key-lengths = (c .before .before .before .before .before .before .before .before .before .before .before .before .before .before .before .before) .change-numbers .ensures;
-        of-value-lengths = (c .before .before .before .before .before .before .before .before .before .before .before .before .before) .change-numbers2 .ensures;
-        of-count = (c .before .before .before .before .before .before .before) .count-after .ensures;
+        of-keys = keys .change-keys .ensures;
+        of-values = values .change-values .ensures;
+        of-key-lengths = lengths .change-numbers .ensures;
+        of-value-lengths = lengths2 .change-numbers2 .ensures;
+        of-count = c .before .before .before .before .before .before .count-after .ensures;
       };
-      of-numbers = (c .before .before .before .before .before .before .before .before .before .before .before) .change-numbers3 .ensures ∙ ap (λ (q : Sequence). changed made (q .0) (take (a .t1 .table .count) (a .t1 .numbers))) (number .ensures);
-      of-expiries = (c .before .before .before .before .before .before .before .before) .change-numbers4 .ensures;
+      of-numbers = numbers .change-numbers3 .ensures ∙ ap (λ (q : Sequence). changed made (q .0) (take (a .t1 .table .count) (a .t1 .numbers))) (number .ensures);
+      of-expiries = expiries .change-numbers4 .ensures;
     })
     (ap (λ (q : Sequence). record { number = q; «last_tick» = a .tick; «last_published» = a .tick }) (number .ensures))
-    (ap (λ (n : ℕ). take n (fresh .result .key)) (k .ensures) ∙ fresh .ensures .0 ∙ key-is) (k .ensures ∙ ap length key-is)
-    (ap (λ (n : ℕ). take n (fresh .result .value)) (v .ensures) ∙ fresh .ensures .1 ∙ value-is) (v .ensures ∙ ap length value-is)
+    (fresh .fresh-row .ensures .key ∙ key-is) (fresh .fresh-row .ensures .key-length ∙ ap length key-is)
+    (fresh .fresh-row .ensures .value ∙ value-is) (fresh .fresh-row .ensures .value-length ∙ ap length value-is)
     (lasts .ensures .0 ∙ ap (λ (b : Bytes). expiryAt (a .tick .0) (propertiesOf b)) properties-is) (lasts .ensures .1)
-    (written-as _ (fieldsOf (now (a .msg))) (number .ensures) key-is uuid-is properties-is value-is (written .ensures)) refl
-    (c .with-output .ensures ∙ ap (λ (q : Sequence). answer (Wrote q) (written .result)) (number .ensures))
+    (written-as _ (fieldsOf (now (a .msg))) (number .ensures) key-is uuid-is properties-is value-is (written .write-kvpub .ensures)) refl
+    (c .with-output .ensures ∙ ap (λ (q : Sequence). answer (Wrote q) (written .write-kvpub .result)) (number .ensures))
 
 pub kvset-spec : {M : Type 1} → statement M
 kvset-spec =
@@ -192,19 +198,17 @@ kvset-spec =
     body-requires
     body-requires-2
     body-requires-3
+    body-requires-4
     fresh-row-requires
     next-number-requires
     change-keys-requires
     change-values-requires
-    count-of-requires
     change-numbers-requires
-    count-of-requires-2
     change-numbers-requires-2
     change-numbers-requires-3
     expiry-at-requires
     change-numbers-requires-4
     count-after-requires
-    body-requires-4
     write-kvpub-requires
     with-output-requires
     same-length

@@ -15,7 +15,7 @@ sizes s = record { table = record { values = search needs; key-lengths = search 
 
 -- where the function begins
 abbrev begin : tie.After-plan-tick → tie.Start
-begin p = p .before .before .before .before .before .before .before .before .before .before .before
+begin p = p .before .before .before .before .before .before .before .before .before .before
 
 -- what is known of the row that expires
 known : (c : tie.After-i) → RowKnown (begin (c .before .before) .args .t1) (c .i .given .0 .0)
