@@ -60,11 +60,11 @@ module _ (key : Bytes) (k : isKey key ≡ true) where
       go true e = sym k ∙ ap isKey (sym (same-eq word key e)) ∙ w
       go false e = refl
 
-  not-hugz : same wordHugz key ≡ false
+  pub not-hugz : same wordHugz key ≡ false
   unfolding isKey pieces every holds
   not-hugz = not-word wordHugz refl
 
-  not-kthxbai : same wordKthxbai key ≡ false
+  pub not-kthxbai : same wordKthxbai key ≡ false
   unfolding isKey pieces every holds
   not-kthxbai = not-word wordKthxbai refl
 

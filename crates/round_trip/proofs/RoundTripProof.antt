@@ -54,7 +54,7 @@ use Rattle.server_state.specs.Views.{Entry, plain, SizedServer, view, ledgerOf}
 use Rattle.server_state.specs.declared.Server.{Server}
 
 -- ---- what a client writes
-identity-short : (identity : Bytes) → isIdentity identity ≡ true → length identity < 18446744073709551616
+pub identity-short : (identity : Bytes) → isIdentity identity ≡ true → length identity < 18446744073709551616
 identity-short identity i = omega (arith, leb-true (length identity) 255 (and-right (leb 1 (length identity)) (leb (length identity) 255) i))
 
 requested : (identity subtree : Bytes) → isIdentity identity ≡ true → isSubtree subtree ≡ true → Requested (withIdentity identity (icanhaz subtree)) identity subtree
@@ -163,7 +163,7 @@ module _ (identity subtree : Bytes) (i : isIdentity identity ≡ true) where
           whole l (h .1),
         )
 
-    snapshot-arrives : n ≤ maxSequence → (rows : Rows Entry) → All Proper rows → SnapshotArrives (snapshotBytes n identity subtree rows) identity subtree n rows
+    pub snapshot-arrives : n ≤ maxSequence → (rows : Rows Entry) → All Proper rows → SnapshotArrives (snapshotBytes n identity subtree rows) identity subtree n rows
     unfolding snapshotBytes syncs
     snapshot-arrives h rows ps =
         let kept = keep-all Proper (under subtree) rows ps in

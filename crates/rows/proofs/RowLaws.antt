@@ -3,7 +3,7 @@
 -- Assumes nothing.
 use Prim.Native.Nat.{suc, _≤_}
 use native.Mathlib.Omega.{arith}
-use mathlib.Core.Bool.{Bool, true, false, cond, _||_}
+use mathlib.Core.Bool.{Bool, true, false, cond, _||_, true≢false}
 use mathlib.Core.List.{List, [], _∷_, _++_, append-assoc, append-nil}
 use mathlib.Core.Option.{Option, none, some}
 use mathlib.Core.Path.{_≡_, refl, sym, ap, _∙_}
@@ -143,6 +143,17 @@ module _ {A : Type 0} where
 
   pub above-hasKey : (k : Bytes) (l : Rows A) → Above k l → hasKey k l ≡ false
   above-hasKey k l h = held-has k l ∙ ap isSome (above-held k l h)
+
+  pub held-keep : (p : Bytes → Bool) (k : Bytes) (l : Rows A) → p k ≡ true → heldUnder k (keep p l) ≡ heldUnder k l
+  unfolding heldUnder keep
+  held-keep p k [] e = refl
+  held-keep p k (r ∷ l) e = go (p (r .0)) (same k (r .0)) refl refl (held-keep p k l e)
+    where
+      go : (b d : Bool) → p (r .0) ≡ b → same k (r .0) ≡ d → heldUnder k (keep p l) ≡ heldUnder k l
+          → heldUnder k (cond b (r ∷ keep p l) (keep p l)) ≡ cond d (some (r .1)) (heldUnder k l)
+      go true d f g ih = rw (g, ih)
+      go false true f g ih = absurd (true≢false (sym e ∙ (ap p (same-eq k (r .0) g) ∙ f)))
+      go false false f g ih = ih
 
   pub held-set-same : (k : Bytes) (a : A) (l : Rows A) → heldUnder k (setRow k a l) ≡ some a
   unfolding setRow heldUnder

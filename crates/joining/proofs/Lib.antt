@@ -1,0 +1,9 @@
+pub mod BookLaws
+pub mod ClientLaws
+pub mod FollowLaws
+pub mod HistoryLaws
+pub mod JoiningProof
+pub mod LogLaws
+pub mod PublicationLaws
+pub mod ServerLaws
+pub mod SnapshotLaws

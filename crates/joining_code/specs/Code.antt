@@ -1,0 +1,46 @@
+-- What the theorem on joining says of the code: after the same calls, what a state of the code holds is what the theorem's run comes to; and the answer, the next
+-- state and the bytes of a call are those of the run's next step.
+use mathlib.Core.Path.{_≡_}
+use Rattle.answers.specs.declared.answer.Answer.{Answer}
+use Rattle.base.specs.Bytes.{Bytes}
+use Rattle.base.specs.Output.{put}
+use Rattle.client_plan.specs.Calls.{Call as ClientCall}
+use Rattle.client_plan.specs.Promises.{Answered as ClientAnswered}
+use Rattle.client_state.specs.Views.{Replica, view as replica}
+use Rattle.client_state.specs.declared.Client.{Client}
+use Rattle.joining.specs.Book.{ServerStart, bookAfter, mapOf}
+use Rattle.joining.specs.Ends.{serverNext, serverBytes, serverAnswer, serverAfter, ClientStart, clientNext, clientBytes, clientAnswer, clientAfter}
+use Rattle.joining.specs.Joining.{Took, joinedAt, NoGap, Follows, heldBy}
+use Rattle.joining.specs.Logs.{Log}
+use Rattle.server_plan.specs.Calls.{Call as ServerCall}
+use Rattle.server_plan.specs.Promises.{Answered as ServerAnswered}
+use Rattle.server_plan.specs.declared.Reply.{Reply as ServerReply}
+use Rattle.server_state.specs.Views.{Entry, Ledger, view as ledger}
+use Rattle.server_state.specs.declared.Server.{Server}
+use Rattle.joining_code.specs.Runs.{ServerRan, ClientRan}
+
+-- the call x, where v is held, gives the reply r, and the output `out` is then `after`
+pub record ServerSteps (v : Ledger Entry) (x : ServerCall) (out : Bytes) (r : ServerReply) (after : Bytes) : Type 0 where
+  pub answer : r .answer ≡ serverAnswer v x
+  pub next : ledger (r .state) ≡ serverNext v x
+  pub output : after ≡ put out 0 (serverBytes v x)
+
+pub record ClientSteps (v : Replica) (x : ClientCall) (out : Bytes) (c′ : Client) (a : Answer) (out′ : Bytes) : Type 0 where
+  pub answer : a ≡ clientAnswer v x
+  pub next : replica c′ ≡ clientNext v x
+  pub output : out′ ≡ put out 0 (clientBytes v x)
+
+pub record Code (p : ServerStart) (S : Log ServerCall) (s : Server) (q : ClientStart) (C : Log ClientCall) (c : Client) : Type 0 where
+  pub server : ledger s ≡ serverAfter p S
+  pub server-steps : (x : ServerCall) (out : Bytes) (r : ServerReply) (after : Bytes) → ServerAnswered s x out r after → ServerSteps (serverAfter p S) x out r after
+  pub client : replica c ≡ clientAfter q C
+  pub client-steps : (x : ClientCall) (out : Bytes) (c′ : Client) (a : Answer) (out′ : Bytes) → ClientAnswered c x out c′ a out′ → ClientSteps (clientAfter q C) x out c′ a out′
+  -- so the server holds its book's number and map, and a client that joined and has no gap follows
+  pub number : ledger s .number ≡ bookAfter p S .number
+  pub map : heldBy (ledger s) ≡ mapOf (bookAfter p S)
+  pub follows : (j : Took p S q C) → NoGap p S q C → Follows p S (replica c) (joinedAt j) (j .later)
+
+-- of all runs of the code
+abbrev pub Linked : Type 0
+Linked =
+    (p : ServerStart) (S : Log ServerCall) (s : Server) (q : ClientStart) (C : Log ClientCall) (c : Client) → ServerRan p S s → ClientRan q C c → Code p S s q C c
