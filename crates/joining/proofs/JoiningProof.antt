@@ -35,7 +35,7 @@ use Rattle.joining.proofs.ServerLaws.{server-is-book, server-sound, ser
 use Rattle.joining.proofs.SnapshotLaws.{snapshotOf, syncsOf, granted-subtree, answer-is, end-word, end-subtree, end-number, rows-taken}
 use Rattle.joining.specs.Book.{Book, ServerStart, bookRefusal, bookAfter, valueOf, mapOf, mapAt}
 use Rattle.joining.specs.Ends.{ClientStart, serverAfter, published, answerTo, clientRefusal, clientNext, clientAfter, accepts, hears, accepted}
-use Rattle.joining.specs.Joining.{Took, joinedAt, AllBetween, NoGap, highest, Follows, held, heldBy, Joining}
+use Rattle.joining.specs.Joining.{Joined, joinedAt, answered, AllBetween, NoGap, highest, Follows, held, heldBy, Joining}
 use Rattle.joining.specs.Logs.Log.{empty, _▷_}
 use Rattle.joining.specs.Logs.{Log, _⧺_, Among, add}
 use Rattle.joining.specs.Readings.{isKvpub, numberOf, kvpubNumber}
@@ -194,46 +194,49 @@ module _ (p : ServerStart) (before : Log ServerCall) (request : Bytes) (room : �
           (follow-step q C x s b t (rw bc (o′ c (inl refl))) (g .1) refl refl k (ih s (cc) (λ (d : Bytes) (y : Among d s). o′ d (inr y)) (g .0)))
 
 module _ (p : ServerStart) (S : Log ServerCall) where
-  follows : (q : ClientStart) (C : Log ClientCall) (j : Took p S q C) → NoGap p S q C → Follows p S (clientAfter q C) (joinedAt j) (j .later)
-  follows q C j g =
-      subst (λ (T : Log ServerCall). Follows p T (clientAfter q C) (joinedAt j) (j .later)) (sym (j .asked))
-      (follow p (j .before) (j .request) (j .room) (j .after) (j .granted) q C (j .later)
-      (j .took ∙ ap (λ (a : Log Bytes). a ⧺ j .later) (answer-here p (j .before) (j .request) (j .room) (j .granted)))
-      (λ (b : Bytes) (a : Among b (j .later)). rw (j .asked) at (j .own b a)) (rw (j .asked) at g))
+  follows : (q : ClientStart) (C : Log ClientCall) (j : Joined p S q C) → Follows p S (clientAfter q C) (joinedAt j) (j .taken .later)
+  follows q C j =
+      let k = j .taken in
+      subst (λ (T : Log ServerCall). Follows p T (clientAfter q C) (joinedAt j) (k .later)) (sym (k .asked))
+      (follow p (k .before) (k .request) (k .room) (k .after) (k .granted) q C (k .later)
+      (k .took ∙ ap (λ (a : Log Bytes). a ⧺ k .later) (answer-here p (k .before) (k .request) (k .room) (k .granted)))
+      (λ (b : Bytes) (a : Among b (k .later)). rw (k .asked) at (k .own b a)) (rw (k .asked) at (j .no-gap)))
 
   -- ---- a beginning of the client's list that has the whole answer
   no-gap-before : (q : ClientStart) (C D : Log ClientCall) → NoGap p S q (C ⧺ D) → NoGap p S q C
   no-gap-before q C empty g = g
   no-gap-before q C (D ▷ x) g = no-gap-before q C D (g .0)
 
-  took-before : (q : ClientStart) (C D : Log ClientCall) (j : Took p S q (C ⧺ D)) (since : Log Bytes)
-      → accepted q C ≡ answerTo (serverAfter p (j .before)) (j .request) (j .room) ⧺ since → Took p S q C
-  took-before q C D j since e =
-      let a = answerTo (serverAfter p (j .before)) (j .request) (j .room) in
+  joined-before : (q : ClientStart) (C D : Log ClientCall) (j : Joined p S q (C ⧺ D)) (since : Log Bytes) → accepted q C ≡ answered j ⧺ since → Joined p S q C
+  joined-before q C D j since e =
+      let k = j .taken in
       let h = accepted-grows q C D in
-      let l : since ⧺ h .0 ≡ j .later =
-      cancel a (since ⧺ h .0) (j .later) (sym (append-assoc a since (h .0)) ∙ (ap (λ (t : Log Bytes). t ⧺ h .0) (sym e) ∙ (sym (h .1) ∙ j .took))) in
+      let l : since ⧺ h .0 ≡ k .later =
+      cancel (answered j) (since ⧺ h .0) (k .later) (sym (append-assoc (answered j) since (h .0)) ∙ (ap (λ (t : Log Bytes). t ⧺ h .0) (sym e) ∙ (sym (h .1) ∙ k .took))) in
       record {
-        before = j .before;
-        request = j .request;
-        room = j .room;
-        after = j .after;
-        asked = j .asked;
-        granted = j .granted;
-        later = since;
-        took = e;
-        own = λ (b : Bytes) (i : Among b since). j .own b (subst (Among b) l (among-left b since (h .0) i));
+        taken = record {
+          before = k .before;
+          request = k .request;
+          room = k .room;
+          after = k .after;
+          asked = k .asked;
+          granted = k .granted;
+          later = since;
+          took = e;
+          own = λ (b : Bytes) (i : Among b since). k .own b (subst (Among b) l (among-left b since (h .0) i));
+        };
+        no-gap = no-gap-before q C D (j .no-gap);
       }
 
-  follows-since : (q : ClientStart) (C D : Log ClientCall) (j : Took p S q (C ⧺ D)) → NoGap p S q (C ⧺ D) → (since : Log Bytes)
-      → accepted q C ≡ answerTo (serverAfter p (j .before)) (j .request) (j .room) ⧺ since → Follows p S (clientAfter q C) (joinedAt j) since
-  unfolding took-before
-  follows-since q C D j g since e = follows q C (took-before q C D j since e) (no-gap-before q C D g)
+  follows-since : (q : ClientStart) (C D : Log ClientCall) (j : Joined p S q (C ⧺ D)) (since : Log Bytes) → accepted q C ≡ answered j ⧺ since
+      → Follows p S (clientAfter q C) (joinedAt j) since
+  unfolding joined-before
+  follows-since q C D j since e = follows q C (joined-before q C D j since e)
 
-  finds : (q : ClientStart) (C : Log ClientCall) → Took p S q C → NoGap p S q C → (key : Bytes) → under (clientAfter q C .subtree) key ≡ true
+  finds : (q : ClientStart) (C : Log ClientCall) → Joined p S q C → (key : Bytes) → under (clientAfter q C .subtree) key ≡ true
       → heldUnder key (clientAfter q C .rows) ≡ heldUnder key (mapAt p S (clientAfter q C .number))
-  finds q C j g key u =
-      ap (heldUnder key) (follows q C j g .map) ∙ held-keep (under (clientAfter q C .subtree)) key (mapAt p S (clientAfter q C .number)) u
+  finds q C j key u =
+      ap (heldUnder key) (follows q C j .map) ∙ held-keep (under (clientAfter q C .subtree)) key (mapAt p S (clientAfter q C .number)) u
 
   -- ---- two clients
   module _ (q₁ q₂ : ClientStart) (C₁ C₂ : Log ClientCall) where
@@ -243,28 +246,28 @@ module _ (p : ServerStart) (S : Log ServerCall) where
     abbrev v₂ : Replica
     v₂ = clientAfter q₂ C₂
 
-    whenever : (j₁ : Took p S q₁ C₁) → NoGap p S q₁ C₁ → (j₂ : Took p S q₂ C₂) → NoGap p S q₂ C₂ → v₁ .subtree ≡ v₂ .subtree → j₂ .later ≡ empty
+    whenever : (j₁ : Joined p S q₁ C₁) (j₂ : Joined p S q₂ C₂) → v₁ .subtree ≡ v₂ .subtree → j₂ .taken .later ≡ empty
         → v₁ .number ≡ joinedAt j₂ → (v₁ .number ≡ v₂ .number) × (v₁ .rows ≡ v₂ .rows)
     unfolding highest
-    whenever j₁ g₁ j₂ g₂ s l n =
-        let f₁ = follows q₁ C₁ j₁ g₁ in
-        let f₂ = follows q₂ C₂ j₂ g₂ in
+    whenever j₁ j₂ s l n =
+        let f₁ = follows q₁ C₁ j₁ in
+        let f₂ = follows q₂ C₂ j₂ in
         let e : v₁ .number ≡ v₂ .number = n ∙ sym (f₂ .number ∙ ap (highest (joinedAt j₂)) l) in
         (e, f₁ .map ∙ (ap₂ (λ (t : Bytes) (i : ℕ). keep (under t) (mapAt p S i)) s e ∙ sym (f₂ .map)))
 
-    narrower : Took p S q₁ C₁ → NoGap p S q₁ C₁ → Took p S q₂ C₂ → NoGap p S q₂ C₂ → v₁ .number ≡ v₂ .number → under (v₁ .subtree) (v₂ .subtree) ≡ true
+    narrower : Joined p S q₁ C₁ → Joined p S q₂ C₂ → v₁ .number ≡ v₂ .number → under (v₁ .subtree) (v₂ .subtree) ≡ true
         → v₂ .rows ≡ keep (under (v₂ .subtree)) (v₁ .rows)
-    narrower j₁ g₁ j₂ g₂ n u =
-        let f₁ = follows q₁ C₁ j₁ g₁ in
-        let f₂ = follows q₂ C₂ j₂ g₂ in
+    narrower j₁ j₂ n u =
+        let f₁ = follows q₁ C₁ j₁ in
+        let f₂ = follows q₂ C₂ j₂ in
         f₂ .map
         ∙ (sym (keep-keep (under (v₁ .subtree)) (under (v₂ .subtree)) (mapAt p S (v₂ .number)) (λ (k : Bytes). under-trans (v₁ .subtree) (v₂ .subtree) k u))
         ∙ ap (keep (under (v₂ .subtree))) (ap (λ (i : ℕ). keep (under (v₁ .subtree)) (mapAt p S i)) (sym n) ∙ sym (f₁ .map)))
 
   -- ---- no KVPUB that leaves no gap is refused
-  goes-on : (q : ClientStart) (C : Log ClientCall) → Took p S q C → NoGap p S q C → (b : Bytes) (t : ℕ) → Among b (published p S) → isKvpub b ≡ true → AllBetween p S q C b
+  goes-on : (q : ClientStart) (C : Log ClientCall) → Joined p S q C → (b : Bytes) (t : ℕ) → Among b (published p S) → isKvpub b ≡ true → AllBetween p S q C b
       → clientRefusal (clientAfter q C) (subscriber b t) ≡ none
-  goes-on q C j g b t a k heard-all = go (published-steps p S b a)
+  goes-on q C j b t a k heard-all = go (published-steps p S b a)
     where
       go : IsStep p S b → clientRefusal (clientAfter q C) (subscriber b t) ≡ none
       go (inl y) = absurd (true≢false (sym k ∙ (ap isKvpub y ∙ hugz-not)))
@@ -273,7 +276,7 @@ module _ (p : ServerStart) (S : Log ServerCall) where
           let f : Fields = y .1 in
           let lk : Step p S n f = y .2 in
           let num : numberOf b ≡ suc n = ap numberOf (y .3) ∙ update-number (suc n) f (lk .good) (omega (arith, lk .below, latest-max p S)) in
-          rw (y .3) (refuses-none p S (clientAfter q C) (joinedAt j) (j .later) (first-latest p (j .before)) (follows q C j g) n f lk (λ d. clear p S q C b (suc n) num heard-all) t)
+          rw (y .3) (refuses-none p S (clientAfter q C) (joinedAt j) (j .taken .later) (first-latest p (j .taken .before)) (follows q C j) n f lk (λ d. clear p S q C b (suc n) num heard-all) t)
 
 pub joining : (p : ServerStart) (S : Log ServerCall) → Joining p S
 joining p S = record {

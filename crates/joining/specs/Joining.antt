@@ -1,6 +1,5 @@
--- Joining is the same whenever it is done: the statement. `Took` and `NoGap` are what is supposed of a list S of calls on a server and a list C of calls on a
--- client, both from their start, refused calls included; `Joining` is what is claimed. S and C are any lists, so that what is said of their end holds
--- after each of their calls.
+-- Joining is the same whenever it is done: the statement. `Joined` is what is supposed of a list S of calls on a server and a list C of calls on a client, both from
+-- their start, refused calls included; `Joining` is what is claimed. S and C are any lists, so that what is said of their end holds after each of their calls.
 use Prim.Native.Nat.{ℕ, _≤_, _<_, max}
 use mathlib.Core.Bool.{true}
 use mathlib.Core.Option.{Option, none, some}
@@ -36,10 +35,6 @@ pub record Took (p : ServerStart) (S : Log ServerCall) (q : ClientStart) (C : Lo
   pub took : accepted q C ≡ answerTo (serverAfter p before) request room ⧺ later
   pub own : (b : Bytes) → Among b later → Among b (published p S)
 
--- m, the book's number when the snapshot is asked
-abbrev pub joinedAt : {p : ServerStart} {S : Log ServerCall} {q : ClientStart} {C : Log ClientCall} → Took p S q C → ℕ
-joinedAt {p} j = bookAfter p (j .before) .number
-
 -- a client has accepted every KVPUB of its subtree that is numbered between: above its own number, and below that of the message b
 abbrev pub AllBetween : ServerStart → Log ServerCall → ClientStart → Log ClientCall → Bytes → Type 0
 AllBetween p S q C b =
@@ -52,6 +47,19 @@ NoGap p S q empty = Unit {0}
 NoGap p S q (C ▷ x) =
     NoGap p S q C
     × ((b : Bytes) → hears (clientAfter q C) x ≡ some b → isKvpub b ≡ true → clientAfter q C .number < numberOf b → AllBetween p S q C b)
+
+-- both
+pub record Joined (p : ServerStart) (S : Log ServerCall) (q : ClientStart) (C : Log ClientCall) : Type 0 where
+  pub taken : Took p S q C
+  pub no-gap : NoGap p S q C
+
+-- m, the book's number when the snapshot is asked
+abbrev pub joinedAt : {p : ServerStart} {S : Log ServerCall} {q : ClientStart} {C : Log ClientCall} → Joined p S q C → ℕ
+joinedAt {p} j = bookAfter p (j .taken .before) .number
+
+-- the answer to it
+abbrev pub answered : {p : ServerStart} {S : Log ServerCall} {q : ClientStart} {C : Log ClientCall} → Joined p S q C → Log Bytes
+answered {p} j = answerTo (serverAfter p (j .taken .before)) (j .taken .request) (j .taken .room)
 
 -- ---- what is claimed
 -- the highest of m and the numbers of the KVPUBs among messages
@@ -88,22 +96,22 @@ pub record Joining (p : ServerStart) (S : Log ServerCall) : Type 0 where
   -- each rise of the book's number is published in exactly one KVPUB, with the new number, and there are no others
   pub published-once : kvpubNumbers (published p S) ≡ rises p S
   -- the client's number and map, once it has the answer (and some messages since), and after every later call
-  pub follows : (q : ClientStart) (C D : Log ClientCall) (j : Took p S q (C ⧺ D)) → NoGap p S q (C ⧺ D) → (since : Log Bytes)
-      → accepted q C ≡ answerTo (serverAfter p (j .before)) (j .request) (j .room) ⧺ since → Follows p S (clientAfter q C) (joinedAt j) since
+  pub follows : (q : ClientStart) (C D : Log ClientCall) (j : Joined p S q (C ⧺ D)) (since : Log Bytes) → accepted q C ≡ answered j ⧺ since
+      → Follows p S (clientAfter q C) (joinedAt j) since
   -- what it finds under a key of its subtree is what the server had under that key at the client's number
-  pub finds : (q : ClientStart) (C : Log ClientCall) → Took p S q C → NoGap p S q C → (key : Bytes) → under (clientAfter q C .subtree) key ≡ true
+  pub finds : (q : ClientStart) (C : Log ClientCall) → Joined p S q C → (key : Bytes) → under (clientAfter q C .subtree) key ≡ true
       → heldUnder key (clientAfter q C .rows) ≡ heldUnder key (mapAt p S (clientAfter q C .number))
   -- joining at m and following until n gives the map and number of joining at n
-  pub whenever : (q₁ q₂ : ClientStart) (C₁ C₂ : Log ClientCall) (j₁ : Took p S q₁ C₁) → NoGap p S q₁ C₁ → (j₂ : Took p S q₂ C₂) → NoGap p S q₂ C₂
-      → clientAfter q₁ C₁ .subtree ≡ clientAfter q₂ C₂ .subtree → j₂ .later ≡ empty → clientAfter q₁ C₁ .number ≡ joinedAt j₂
+  pub whenever : (q₁ q₂ : ClientStart) (C₁ C₂ : Log ClientCall) (j₁ : Joined p S q₁ C₁) (j₂ : Joined p S q₂ C₂)
+      → clientAfter q₁ C₁ .subtree ≡ clientAfter q₂ C₂ .subtree → j₂ .taken .later ≡ empty → clientAfter q₁ C₁ .number ≡ joinedAt j₂
       → (clientAfter q₁ C₁ .number ≡ clientAfter q₂ C₂ .number) × (clientAfter q₁ C₁ .rows ≡ clientAfter q₂ C₂ .rows)
   -- of two clients at one number, the narrower has the wider's map, cut to its own subtree
-  pub narrower : (q₁ q₂ : ClientStart) (C₁ C₂ : Log ClientCall) → Took p S q₁ C₁ → NoGap p S q₁ C₁ → Took p S q₂ C₂ → NoGap p S q₂ C₂
+  pub narrower : (q₁ q₂ : ClientStart) (C₁ C₂ : Log ClientCall) → Joined p S q₁ C₁ → Joined p S q₂ C₂
       → clientAfter q₁ C₁ .number ≡ clientAfter q₂ C₂ .number → under (clientAfter q₁ C₁ .subtree) (clientAfter q₂ C₂ .subtree) ≡ true
       → clientAfter q₂ C₂ .rows ≡ keep (under (clientAfter q₂ C₂ .subtree)) (clientAfter q₁ C₁ .rows)
   -- a KVPUB accepted once changes nothing when it comes again, at either entry
   pub again : (q : ClientStart) (C : Log ClientCall) (b : Bytes) → Among b (heard q C) → isKvpub b ≡ true
       → (x : ClientCall) → handed x ≡ some b → clientNext (clientAfter q C) x ≡ clientAfter q C
   -- a client that follows refuses no KVPUB of the server that leaves no gap, so that it can always go on; it is never full
-  pub goes-on : (q : ClientStart) (C : Log ClientCall) → Took p S q C → NoGap p S q C → (b : Bytes) (t : ℕ) → Among b (published p S)
+  pub goes-on : (q : ClientStart) (C : Log ClientCall) → Joined p S q C → (b : Bytes) (t : ℕ) → Among b (published p S)
       → isKvpub b ≡ true → AllBetween p S q C b → clientRefusal (clientAfter q C) (subscriber b t) ≡ none

@@ -21,7 +21,7 @@ use Rattle.client_state.specs.declared.Client.{Client}
 use Rattle.joining.proofs.JoiningProof.{joining}
 use Rattle.joining.specs.Book.{ServerStart}
 use Rattle.joining.specs.Ends.{serverStart, serverRefusal, serverNext, serverBytes, serverAnswer, serverAfter, ClientStart, clientStart, clientRefusal, clientNext, clientBytes, clientAnswer, clientAfter}
-use Rattle.joining.specs.Joining.{Took, joinedAt, NoGap, Follows, heldBy}
+use Rattle.joining.specs.Joining.{Joined, joinedAt, Follows, heldBy}
 use Rattle.joining.specs.Logs.Log.{empty}
 use Rattle.joining.specs.Logs.{Log}
 use Rattle.joining_code.specs.Code.{ServerSteps, ClientSteps, Linked}
@@ -125,6 +125,6 @@ linked p S s q C c ran ran′ =
           subst (λ (v : Replica). ClientSteps v x out c′ b out′) holds′ (client-step c (client-well ran′) x out c′ b out′ a);
       number = ap (λ (v : Ledger Entry). v .number) holds ∙ theorem .number;
       map = ap heldBy holds ∙ theorem .map;
-      follows = λ (j : Took p S q C) (g : NoGap p S q C).
-          subst (λ (v : Replica). Follows p S v (joinedAt j) (j .later)) (sym holds′) (theorem .follows q C empty j g (j .later) (j .took));
+      follows = λ (j : Joined p S q C).
+          subst (λ (v : Replica). Follows p S v (joinedAt j) (j .taken .later)) (sym holds′) (theorem .follows q C empty j (j .taken .later) (j .taken .took));
     }

@@ -10,7 +10,7 @@ use Rattle.client_state.specs.Views.{Replica, view as replica}
 use Rattle.client_state.specs.declared.Client.{Client}
 use Rattle.joining.specs.Book.{ServerStart, bookAfter, mapOf}
 use Rattle.joining.specs.Ends.{serverNext, serverBytes, serverAnswer, serverAfter, ClientStart, clientNext, clientBytes, clientAnswer, clientAfter}
-use Rattle.joining.specs.Joining.{Took, joinedAt, NoGap, Follows, heldBy}
+use Rattle.joining.specs.Joining.{Joined, joinedAt, Follows, heldBy}
 use Rattle.joining.specs.Logs.{Log}
 use Rattle.server_plan.specs.Calls.{Call as ServerCall}
 use Rattle.server_plan.specs.Promises.{Answered as ServerAnswered}
@@ -38,7 +38,7 @@ pub record Code (p : ServerStart) (S : Log ServerCall) (s : Server) (q : ClientS
   -- so the server holds its book's number and map, and a client that joined and has no gap follows
   pub number : ledger s .number ≡ bookAfter p S .number
   pub map : heldBy (ledger s) ≡ mapOf (bookAfter p S)
-  pub follows : (j : Took p S q C) → NoGap p S q C → Follows p S (replica c) (joinedAt j) (j .later)
+  pub follows : (j : Joined p S q C) → Follows p S (replica c) (joinedAt j) (j .taken .later)
 
 -- of all runs of the code
 abbrev pub Linked : Type 0

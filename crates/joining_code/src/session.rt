@@ -1,0 +1,62 @@
+// Sessions: one end that is started and then called, each entry once. What the entries promise makes the calls a run.
+use client_state::Client;
+use names::numbers::Sequence;
+use names::numbers::Tick;
+use server::icanhaz;
+use server::kvset;
+use server::start;
+use server_clock::tick;
+use server_plan::Reply;
+ghost use lib.ListN.{length};
+ghost use Rattle.client_plan.specs.Calls.Call.{snapshot, subscriber, writeIcanhaz, writeKvset, ask, lookup};
+ghost use Rattle.joining.specs.Book.ServerStart.{begin};
+ghost use Rattle.joining.specs.Ends.ClientStart.{wait};
+ghost use Rattle.joining.specs.Logs.Log.{empty, _▷_};
+ghost use Rattle.joining_code.specs.Runs.{ServerRan, ClientRan};
+ghost use Rattle.server_plan.specs.Calls.Call.{kvset as asked, tick as passed, icanhaz as requested};
+
+// A server: an update, a tick, and a snapshot.
+pub fn serve<'a>(
+    number: Sequence,
+    began: Tick,
+    msg: &'a [u8],
+    request: &'a [u8],
+    at: Tick,
+    update: &'a mut [u8],
+    expiry: &'a mut [u8],
+    snapshot: &'a mut [u8],
+) -> Reply
+    ensures { λ r. ⌜ ServerRan (begin (number .0) (began .0)) (empty ▷ asked (now (msg .entry)) (at .0) (length (now (update .entry))) ▷ passed (at .0) (length (now (expiry .entry))) ▷ requested (now (request .entry)) (length (now (snapshot .entry)))) (r .state) ⌝ }
+{
+    let fresh = start::start(number, began);
+    let set = kvset::kvset(fresh.state, msg, at, update);
+    let timed = tick::tick(set.state, at, expiry);
+    icanhaz::icanhaz(timed.state, request, snapshot)
+}
+
+// A client: the request, a message of the snapshot, one that was published, an update, whether the server is gone, and what a key has.
+pub fn follow<'a>(
+    subtree: &'a [u8],
+    began: Tick,
+    row: &'a [u8],
+    news: &'a [u8],
+    at: Tick,
+    key: &'a [u8],
+    uuid: &'a [u8],
+    properties: &'a [u8],
+    value: &'a [u8],
+    request: &'a mut [u8],
+    update: &'a mut [u8],
+    found: &'a mut [u8],
+) -> Client
+    ensures { λ c. ⌜ ClientRan (wait (now (subtree .entry)) (began .0)) (empty ▷ writeIcanhaz (length (now (request .entry))) ▷ snapshot (now (row .entry)) ▷ subscriber (now (news .entry)) (at .0) ▷ writeKvset (now (key .entry)) (now (uuid .entry)) (now (properties .entry)) (now (value .entry)) (length (now (update .entry))) ▷ ask (at .0) ▷ lookup (now (key .entry)) (length (now (found .entry)))) c ⌝ }
+{
+    let fresh = client::start::start(subtree, began);
+    client_queries::write::write_icanhaz(fresh.state, request);
+    let synced = client::snapshot::snapshot(fresh.state, row);
+    let told = client::subscriber::subscriber(synced.state, news, at);
+    client_queries::write::write_kvset(told.state, key, uuid, properties, value, update);
+    client_queries::ask::ask(told.state, at);
+    client_queries::lookup::lookup(told.state, key, found);
+    told.state
+}

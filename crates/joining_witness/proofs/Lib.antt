@@ -1,0 +1,4 @@
+pub mod Computed
+pub mod GapTests
+pub mod NeededProof
+pub mod WitnessProof

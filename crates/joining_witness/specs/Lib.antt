@@ -1,0 +1,5 @@
+pub mod Kinds
+pub mod Needed
+pub mod Session
+pub mod W1
+pub mod Witness
