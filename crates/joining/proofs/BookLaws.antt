@@ -24,7 +24,6 @@ use Rattle.names.specs.declared.order.Order.the-variants.{Less, Equal, Greater}
 use Rattle.names.specs.declared.order.Order.{Order}
 use Rattle.names.specs.Order.{orderOf}
 use Rattle.ports.specs.Ports.{framed, payloadChecks, kvsetChecks, kvsetPort, tickChecks}
-use Rattle.properties.specs.Properties.{propertiesOf}
 use Rattle.rows.proofs.RowLaws.{sorted-set, sorted-remove, set-remove, length-set, length-remove}
 use Rattle.rows.specs.Rows.{Rows, Sorted, place, setRow, part, removeRow, keysIn, hasKey}
 use Rattle.server.specs.Start.{startChecks, startRefusal}
@@ -32,7 +31,6 @@ use Rattle.server_plan.specs.Calls.Call.{kvset, tick, icanhaz}
 use Rattle.server_plan.specs.Calls.{Call}
 use Rattle.server_plan.specs.Deeds.Deed.{expire, beat, quiet}
 use Rattle.server_plan.specs.Deeds.{Deed, deedOf, deed}
-use Rattle.server_plan.specs.Next.{expiryAt}
 use Rattle.server_plan.specs.Refusals.{updateChecks, deedChecks, callChecks}
 use Rattle.server_state.proofs.DueLaws.{due-key}
 use Rattle.server_state.specs.Due.{leastDue}
@@ -116,31 +114,31 @@ module _ (b : Book) (msg : Bytes) (t room : ℕ) where
 
     sound-kvset : Sound b → Sound (bookKvset b (fieldsOf msg) t)
     unfolding bookKvset
-    sound-kvset s = go (isNil (frameAt 4 msg)) refl has-room
+    sound-kvset s = go _ (isNil (frameAt 4 msg)) refl has-room
       where
         key : Bytes
         key = frameAt 0 msg
 
-        held : Held
-        held = record { value = frameAt 4 msg; expiry = expiryAt t (propertiesOf (frameAt 3 msg)) }
+        held : Option ℕ → Held
+        held expiry = record { value = frameAt 4 msg; expiry = expiry }
 
         few : (y : Bool) → hasKey key (b .rows) ≡ y → (not y && leb 64 (length (b .rows))) ≡ false → cond y (length (b .rows)) (suc (length (b .rows))) ≤ 64
         few true f g = s .count
         few false f g = leb-false 64 (length (b .rows)) g
 
-        go : (y : Bool) → isNil (frameAt 4 msg) ≡ y → (not y && (not (hasKey key (b .rows)) && leb 64 (length (b .rows)))) ≡ false
-            → Sound (record { number = suc (b .number); lastTick = t; lastPublished = t; rows = cond y (removeRow key (b .rows)) (setRow key held (removeRow key (b .rows))) })
-        go true f g = record {
+        go : (e : Option ℕ) (y : Bool) → isNil (frameAt 4 msg) ≡ y → (not y && (not (hasKey key (b .rows)) && leb 64 (length (b .rows)))) ≡ false
+            → Sound (record { number = suc (b .number); lastTick = t; lastPublished = t; rows = cond y (removeRow key (b .rows)) (setRow key (held e) (removeRow key (b .rows))) })
+        go e true f g = record {
           sorted = sorted-remove key (b .rows) (s .sorted);
           count = omega (arith, length-remove key (b .rows), s .count);
           number = kvset-below (s .number);
           fit = all-remove Fit key (b .rows) (s .fit);
         }
-        go false f g = record {
-          sorted = sorted-set key held (removeRow key (b .rows)) (sorted-remove key (b .rows) (s .sorted));
-          count = rw (set-remove key held (b .rows) (s .sorted), length-set key held (b .rows) (s .sorted)) (few (hasKey key (b .rows)) refl g);
+        go e false f g = record {
+          sorted = sorted-set key (held e) (removeRow key (b .rows)) (sorted-remove key (b .rows) (s .sorted));
+          count = rw (set-remove key (held e) (b .rows) (s .sorted), length-set key (held e) (b .rows) (s .sorted)) (few (hasKey key (b .rows)) refl g);
           number = kvset-below (s .number);
-          fit = all-set Fit key held (removeRow key (b .rows)) (record { key = update-good .key; filled = f; short = value-short }) (all-remove Fit key (b .rows) (s .fit));
+          fit = all-set Fit key (held e) (removeRow key (b .rows)) (record { key = update-good .key; filled = f; short = value-short }) (all-remove Fit key (b .rows) (s .fit));
         }
 
 -- ---- an accepted Tick

@@ -1,9 +1,13 @@
 pub mod BookLaws
 pub mod ClientLaws
 pub mod FollowLaws
+pub mod GrantLaws
 pub mod HistoryLaws
+pub mod JoinLaws
 pub mod JoiningProof
 pub mod LogLaws
+pub mod PossibleProof
 pub mod PublicationLaws
 pub mod ServerLaws
 pub mod SnapshotLaws
+pub mod TakingLaws

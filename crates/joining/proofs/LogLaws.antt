@@ -1,11 +1,13 @@
 -- Laws of lists that grow at their right end. Assumes nothing.
-use Prim.Native.Nat.{ℕ, suc, _≤_}
+use Prim.Native.Nat.{ℕ, suc, _+_, _≤_}
 use native.Mathlib.Omega.{arith}
+use mathlib.Core.List.{List, [], _∷_}
 use mathlib.Core.Logic.{_⊎_, inl, inr}
 use mathlib.Core.Option.{Option, none, some}
 use mathlib.Core.Path.{_≡_, refl, sym, ap}
+use lib.ListN.{length}
 use Rattle.joining.specs.Logs.Log.{empty, _▷_}
-use Rattle.joining.specs.Logs.{Log, _⧺_, Among, add}
+use Rattle.joining.specs.Logs.{Log, _⧺_, Among, add, onto}
 
 module _ {A : Type 0} where
   -- ---- what stands in a list
@@ -34,7 +36,7 @@ module _ {A : Type 0} where
   append-assoc a b empty = refl
   append-assoc a b (c ▷ x) = ap (λ (t : Log A). t ▷ x) (append-assoc a b c)
 
-  size : Log A → ℕ
+  unfoldable pub size : Log A → ℕ
   size empty = 0
   size (xs ▷ x) = suc (size xs)
 
@@ -42,6 +44,11 @@ module _ {A : Type 0} where
   unfolding size
   size-append a empty = omega arith
   size-append a (b ▷ x) = omega (arith, size-append a b)
+
+  pub size-onto : (xs : Log A) (l : List A) → size (onto xs l) ≡ size xs + length l
+  unfolding size
+  size-onto xs [] = omega arith
+  size-onto xs (x ∷ l) = omega (arith, size-onto (xs ▷ x) l)
 
   longer : (a b : Log A) (x : A) → a ≡ (a ⧺ b) ▷ x → ⊥
   unfolding size

@@ -76,14 +76,18 @@ module _ (n : ℕ) (f : Fields) (g : GoodUpdate f) (h : n ≤ maxSequence) where
   unfolding kvpubNumber
   update-kvpub = rw (update-is, update-number)
 
+-- ---- what is no KVPUB has no number
+pub unnumbered : (b : Bytes) → isKvpub b ≡ false → kvpubNumber b ≡ none
+unfolding kvpubNumber
+unnumbered b e = rw e
+
 -- ---- HUGZ
 pub hugz-not : isKvpub (bytesOf hugz) ≡ false
 unfolding same
 hugz-not = passes-hugz (bytesOf hugz) (hugz-arrives .passes) (ap (λ (x : Fields). same wordHugz (x .head)) (hugz-arrives .fields))
 
 pub hugz-number : kvpubNumber (bytesOf hugz) ≡ none
-unfolding kvpubNumber
-hugz-number = rw hugz-not
+hugz-number = unnumbered (bytesOf hugz) hugz-not
 
 -- ---- bytes were written
 -- a frame has its flag octet

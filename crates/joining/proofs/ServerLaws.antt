@@ -9,12 +9,11 @@ use Rattle.answers.specs.Refusals.{ifAccepted}
 use Rattle.answers.specs.declared.refusal.Refusal.{Refusal}
 use Rattle.base.specs.Bytes.{Bytes, isNil}
 use Rattle.base.specs.Checks.{firstOf}
-use Rattle.base.specs.Cuts.{pieces}
 use Rattle.client_plan.specs.Next.{updated}
 use Rattle.messages.specs.Fields.{Fields, bytesOf, fields, fieldsOf, hugz}
 use Rattle.names.specs.Numbers.{maxSequence}
-use Rattle.ports.specs.Ports.{payloadChecks}
-use Rattle.properties.specs.Properties.{propertiesIn, propertiesOf, ttls}
+use Rattle.properties.specs.Properties.{propertiesOf}
+use Rattle.round_trip.proofs.RoundTripProof.{nothing-more}
 use Rattle.rows.proofs.RowLaws.{set-remove, map-set, map-remove}
 use Rattle.rows.specs.Rows.{Rows, setRow, removeRow, mapRows}
 use Rattle.server.specs.Start.{startRefusal, startOf, emptyAt}
@@ -123,10 +122,6 @@ kvset-number b f t = refl
 abbrev expiring : Bytes → Fields
 expiring key = fields key [] [] [] []
 
-nothing-else : firstOf (payloadChecks [] [] []) ≡ none
-unfolding firstOf propertiesOf propertiesIn pieces ttls
-nothing-else = refl
-
 module _ (v : Ledger Entry) (s : Sound (ledgerOf v)) where
   kvset-move : (msg : Bytes) (t room : ℕ) (r : Option Refusal) → bookRefusal (ledgerOf v) (kvset msg t room) ≡ r
       → Move (ledgerOf v) (ifAccepted r (bookKvset (ledgerOf v) (fieldsOf msg) t) (ledgerOf v)) (message (ifAccepted r (update (suc (v .number)) (fieldsOf msg)) []))
@@ -140,7 +135,7 @@ module _ (v : Ledger Entry) (s : Sound (ledgerOf v)) where
       → Move (ledgerOf v) (bookTick (ledgerOf v) d t) (message (tickBytes (v .number) d))
   unfolding bookTick tickBytes ledgerOf mapOf update expiry
   deed-move t room (expire key) f e =
-      steps (expiring key) (record { key = deed-key (ledgerOf v) t key s f; payload = nothing-else }) (expiry-below (v .number) room key e (s .number)) refl
+      steps (expiring key) (record { key = deed-key (ledgerOf v) t key s f; payload = nothing-more }) (expiry-below (v .number) room key e (s .number)) refl
       (map-remove valueOf key (ledgerOf v .rows)) (update-written (suc (v .number)) (expiring key))
   deed-move t room beat f e = stays refl refl (inr hugz-written)
   deed-move t room quiet f e = stays refl refl (inl refl)

@@ -47,15 +47,15 @@ use Rattle.joining.specs.Logs.Log.{empty, _▷_}
 use Rattle.joining.specs.Logs.{Log, add, onto}
 use Rattle.joining.specs.Readings.{numberOf}
 
-abbrev mapLog : {A B : Type 0} → (A → B) → Log A → Log B
+abbrev pub mapLog : {A B : Type 0} → (A → B) → Log A → Log B
 mapLog f empty = empty
 mapLog f (xs ▷ x) = mapLog f xs ▷ f x
 
 -- ---- the messages as the client gets them
-abbrev syncOf : Bytes × Entry → Bytes
+abbrev pub syncOf : Bytes × Entry → Bytes
 syncOf r = bytesOf (kvsync (r .1 .number) (r .0) (r .1 .value))
 
-abbrev endOf : ℕ → Bytes → Bytes
+abbrev pub endOf : ℕ → Bytes → Bytes
 endOf n subtree = bytesOf (kthxbai n subtree)
 
 -- the rows under a subtree, in key order
@@ -74,11 +74,11 @@ unfolding mapRows plain
 proper-rows [] h = tt
 proper-rows (r ∷ l) h = ((h .0 .key, (h .0 .filled, h .0 .short)), proper-rows l (h .1))
 
-sound-rows : (v : Ledger Entry) → Sound (ledgerOf v) → All Proper (v .rows)
+pub sound-rows : (v : Ledger Entry) → Sound (ledgerOf v) → All Proper (v .rows)
 unfolding ledgerOf
 sound-rows v s = proper-rows (v .rows) (s .fit)
 
-sound-number : (v : Ledger Entry) → Sound (ledgerOf v) → v .number ≤ maxSequence
+pub sound-number : (v : Ledger Entry) → Sound (ledgerOf v) → v .number ≤ maxSequence
 unfolding ledgerOf
 sound-number v s = s .number
 
@@ -134,7 +134,7 @@ module _ (n : ℕ) (subtree : Bytes) (u : isSubtree subtree ≡ true) where
   end-number h = ap (λ (f : Fields). number (f .sequence)) end-fields ∙ number-octets 8 n (omega arith)
 
 -- ---- a client that takes rows
-sync-fields : (r : Bytes × Entry) → Proper r → fieldsOf (syncOf r) ≡ kvsync (r .1 .number) (r .0) (r .1 .value)
+pub sync-fields : (r : Bytes × Entry) → Proper r → fieldsOf (syncOf r) ≡ kvsync (r .1 .number) (r .0) (r .1 .value)
 sync-fields r p = fields-back (kvsync (r .1 .number) (r .0) (r .1 .value)) (sync-sizes (r .0) (r .1 .value) (r .1 .number) (p .0) (p .1 .1))
 
 abbrev AllIn : Log (Bytes × Entry) → Type 0

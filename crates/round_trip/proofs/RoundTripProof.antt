@@ -57,7 +57,7 @@ use Rattle.server_state.specs.declared.Server.{Server}
 pub identity-short : (identity : Bytes) → isIdentity identity ≡ true → length identity < 18446744073709551616
 identity-short identity i = omega (arith, leb-true (length identity) 255 (and-right (leb 1 (length identity)) (leb (length identity) 255) i))
 
-requested : (identity subtree : Bytes) → isIdentity identity ≡ true → isSubtree subtree ≡ true → Requested (withIdentity identity (icanhaz subtree)) identity subtree
+pub requested : (identity subtree : Bytes) → isIdentity identity ≡ true → isSubtree subtree ≡ true → Requested (withIdentity identity (icanhaz subtree)) identity subtree
 unfolding firstOf frameAt
 requested identity subtree i s =
     let f = request-on identity subtree (identity-short identity i) (omega (arith, subtree-short subtree s)) in
@@ -88,7 +88,7 @@ module _ (c : Client) where
 next-number : (n : ℕ) → n ≤ maxSequence → eqb n maxSequence ≡ false → suc n ≤ maxSequence
 next-number n h e = omega (arith, eqb-false n maxSequence e)
 
-nothing-more : firstOf (payloadChecks [] [] []) ≡ none
+pub nothing-more : firstOf (payloadChecks [] [] []) ≡ none
 unfolding firstOf propertiesOf propertiesIn pieces ttls
 nothing-more = refl
 
