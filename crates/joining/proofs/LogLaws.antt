@@ -6,6 +6,7 @@ use mathlib.Core.Logic.{_⊎_, inl, inr}
 use mathlib.Core.Option.{Option, none, some}
 use mathlib.Core.Path.{_≡_, refl, sym, ap}
 use lib.ListN.{length}
+use Rattle.cells.specs.Cells.{All}
 use Rattle.joining.specs.Logs.Log.{empty, _▷_}
 use Rattle.joining.specs.Logs.{Log, _⧺_, Among, add, onto}
 
@@ -26,6 +27,15 @@ module _ {A : Type 0} where
   pub among-left : (x : A) (a b : Log A) → Among x a → Among x (a ⧺ b)
   among-left x a empty h = h
   among-left x a (b ▷ y) h = inr (among-left x a b h)
+
+  -- ---- what holds of all of a list
+  abbrev pub AllOf : (A → Type 0) → Log A → Type 0
+  AllOf P empty = Unit {0}
+  AllOf P (xs ▷ x) = AllOf P xs × P x
+
+  pub all-onto : (P : A → Type 0) (xs : Log A) (l : List A) → AllOf P xs → All P l → AllOf P (onto xs l)
+  all-onto P xs [] a h = a
+  all-onto P xs (x ∷ l) a h = all-onto P (xs ▷ x) l (a, h .0) (h .1)
 
   -- ---- one list and then another
   pub add-append : (a b : Log A) (o : Option A) → add (a ⧺ b) o ≡ a ⧺ add b o

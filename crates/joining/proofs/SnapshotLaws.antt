@@ -38,7 +38,7 @@ use Rattle.server_state.specs.Views.{Entry, Ledger, plain, ledgerOf}
 use Rattle.joining.proofs.BookLaws.{Fit, Sound}
 use Rattle.joining.proofs.ClientLaws.Take.{idle, synced, ended, alive, moved}
 use Rattle.joining.proofs.ClientLaws.{Take, take}
-use Rattle.joining.proofs.LogLaws.{empty-not-longer}
+use Rattle.joining.proofs.LogLaws.{AllOf, all-onto, empty-not-longer}
 use Rattle.joining.specs.Book.{Book, bookRefusal}
 use Rattle.joining.specs.Ends.ClientStart.{wait}
 use Rattle.joining.specs.Ends.{serverRefusal, serverBytes, answerTo, ClientStart, clientStart, clientAfter, accepted}
@@ -137,9 +137,9 @@ module _ (n : ℕ) (subtree : Bytes) (u : isSubtree subtree ≡ true) where
 pub sync-fields : (r : Bytes × Entry) → Proper r → fieldsOf (syncOf r) ≡ kvsync (r .1 .number) (r .0) (r .1 .value)
 sync-fields r p = fields-back (kvsync (r .1 .number) (r .0) (r .1 .value)) (sync-sizes (r .0) (r .1 .value) (r .1 .number) (p .0) (p .1 .1))
 
-abbrev AllIn : Log (Bytes × Entry) → Type 0
-AllIn empty = Unit {0}
-AllIn (rs ▷ r) = AllIn rs × Proper r
+-- a row as it is sent for a subtree
+abbrev pub Sent : Bytes → Bytes × Entry → Type 0
+Sent subtree r = Proper r × (under subtree (r .0) ≡ true)
 
 -- the rows put in one after another
 putAll : Log (Bytes × Entry) → Rows Bytes
@@ -149,29 +149,29 @@ putAll (rs ▷ r) = setRow (r .0) (r .1 .value) (putAll rs)
 abbrev Waits : Replica → Log (Bytes × Entry) → Type 0
 Waits v rs = (v .live ≡ false) × (v .rows ≡ putAll rs)
 
-sync-step : {v v′ : Replica} {w h : Option Bytes} → Take v v′ w h → (A : Log Bytes) (rs : Log (Bytes × Entry)) → add A w ≡ mapLog syncOf rs → AllIn rs
-    → ((rs′ : Log (Bytes × Entry)) → A ≡ mapLog syncOf rs′ → AllIn rs′ → Waits v rs′) → Waits v′ rs
+sync-step : (subtree : Bytes) {v v′ : Replica} {w h : Option Bytes} → Take v v′ w h → (A : Log Bytes) (rs : Log (Bytes × Entry)) → add A w ≡ mapLog syncOf rs → AllOf (Sent subtree) rs
+    → ((rs′ : Log (Bytes × Entry)) → A ≡ mapLog syncOf rs′ → AllOf (Sent subtree) rs′ → Waits v rs′) → Waits v′ rs
 unfolding putAll effectNext
-sync-step {v} {v′} {w} {h} (idle e f g) A rs q a ih = rw e (ih rs (rw f at q) a)
-sync-step {v} {v′} {w} {h} (synced b l k e f g) A empty q a ih = absurd (empty-not-longer A b (sym (rw f at q)))
-sync-step {v} {v′} {w} {h} (synced b l k e f g) A (rs ▷ r) q a ih =
+sync-step subtree {v} {v′} {w} {h} (idle e f g) A rs q a ih = rw e (ih rs (rw f at q) a)
+sync-step subtree {v} {v′} {w} {h} (synced b l k e f g) A empty q a ih = absurd (empty-not-longer A b (sym (rw f at q)))
+sync-step subtree {v} {v′} {w} {h} (synced b l k e f g) A (rs ▷ r) q a ih =
     let q′ : A ▷ b ≡ mapLog syncOf rs ▷ syncOf r = rw f at q in
     let i = ih rs (cc) (a .0) in
-    let fr : fieldsOf b ≡ kvsync (r .1 .number) (r .0) (r .1 .value) = ap fieldsOf (cc) ∙ sync-fields r (a .1) in
+    let fr : fieldsOf b ≡ kvsync (r .1 .number) (r .0) (r .1 .value) = ap fieldsOf (cc) ∙ sync-fields r (a .1 .0) in
     let key : frameAt 0 b ≡ r .0 = ap (λ (x : Fields). x .head) fr in
     let value : frameAt 4 b ≡ r .1 .value = ap (λ (x : Fields). x .value) fr in
     rw (e, key, value, i .1) (i .0, refl)
-sync-step {v} {v′} {w} {h} (ended b l k s e f g) A empty q a ih = absurd (empty-not-longer A b (sym (rw f at q)))
-sync-step {v} {v′} {w} {h} (ended b l k s e f g) A (rs ▷ r) q a ih =
+sync-step subtree {v} {v′} {w} {h} (ended b l k s e f g) A empty q a ih = absurd (empty-not-longer A b (sym (rw f at q)))
+sync-step subtree {v} {v′} {w} {h} (ended b l k s e f g) A (rs ▷ r) q a ih =
     let q′ : A ▷ b ≡ mapLog syncOf rs ▷ syncOf r = rw f at q in
-    let fr : fieldsOf b ≡ kvsync (r .1 .number) (r .0) (r .1 .value) = ap fieldsOf (cc) ∙ sync-fields r (a .1) in
+    let fr : fieldsOf b ≡ kvsync (r .1 .number) (r .0) (r .1 .value) = ap fieldsOf (cc) ∙ sync-fields r (a .1 .0) in
     let key : frameAt 0 b ≡ r .0 = ap (λ (x : Fields). x .head) fr in
-    absurd (true≢false (sym k ∙ (ap (same wordKthxbai) key ∙ not-kthxbai (r .0) (a .1 .0))))
-sync-step {v} {v′} {w} {h} (alive b t l k e f g) A empty q a ih = absurd (empty-not-longer A b (sym (rw f at q)))
-sync-step {v} {v′} {w} {h} (alive b t l k e f g) A (rs ▷ r) q a ih =
+    absurd (true≢false (sym k ∙ (ap (same wordKthxbai) key ∙ not-kthxbai (r .0) (a .1 .0 .0))))
+sync-step subtree {v} {v′} {w} {h} (alive b t l k e f g) A empty q a ih = absurd (empty-not-longer A b (sym (rw f at q)))
+sync-step subtree {v} {v′} {w} {h} (alive b t l k e f g) A (rs ▷ r) q a ih =
     let q′ : A ▷ b ≡ mapLog syncOf rs ▷ syncOf r = rw f at q in absurd (true≢false (sym l ∙ ih rs (cc) (a .0) .0))
-sync-step {v} {v′} {w} {h} (moved b l k e f g) A empty q a ih = absurd (empty-not-longer A b (sym (rw f at q)))
-sync-step {v} {v′} {w} {h} (moved b l k e f g) A (rs ▷ r) q a ih =
+sync-step subtree {v} {v′} {w} {h} (moved b l k e f g) A empty q a ih = absurd (empty-not-longer A b (sym (rw f at q)))
+sync-step subtree {v} {v′} {w} {h} (moved b l k e f g) A (rs ▷ r) q a ih =
     let q′ : A ▷ b ≡ mapLog syncOf rs ▷ syncOf r = rw f at q in absurd (true≢false (sym l ∙ ih rs (cc) (a .0) .0))
 
 start-waits : (q : ClientStart) → Waits (clientStart q) empty
@@ -182,20 +182,15 @@ start-waits (wait subtree t) = go (startRefusal subtree t)
     go none = (refl, refl)
     go (some r) = (refl, refl)
 
-syncing : (q : ClientStart) (C : Log ClientCall) (rs : Log (Bytes × Entry)) → accepted q C ≡ mapLog syncOf rs → AllIn rs → Waits (clientAfter q C) rs
+syncing : (subtree : Bytes) (q : ClientStart) (C : Log ClientCall) (rs : Log (Bytes × Entry)) → accepted q C ≡ mapLog syncOf rs → AllOf (Sent subtree) rs → Waits (clientAfter q C) rs
 unfolding accepted clientAfter
-syncing q empty empty e a = start-waits q
-syncing q empty (rs ▷ r) e a = absurd (empty-not-longer (mapLog syncOf rs) (syncOf r) e)
-syncing q (C ▷ x) rs e a = sync-step (take (clientAfter q C) x) (accepted q C) rs e a (λ (rs′ : Log (Bytes × Entry)). syncing q C rs′)
+syncing subtree q empty empty e a = start-waits q
+syncing subtree q empty (rs ▷ r) e a = absurd (empty-not-longer (mapLog syncOf rs) (syncOf r) e)
+syncing subtree q (C ▷ x) rs e a = sync-step subtree (take (clientAfter q C) x) (accepted q C) rs e a (λ (rs′ : Log (Bytes × Entry)). syncing subtree q C rs′)
 
 -- ---- of the rows of a sound server
-all-onto : (xs : Log (Bytes × Entry)) (l : Rows Entry) → AllIn xs → All Proper l → AllIn (onto xs l)
-all-onto xs [] a h = a
-all-onto xs (r ∷ l) a h = all-onto (xs ▷ r) l (a, h .0) (h .1)
-
-proper-kept : (subtree : Bytes) (l : Rows Entry) → All (λ (r : Bytes × Entry). Proper r × (under subtree (r .0) ≡ true)) l → All Proper l
-proper-kept subtree [] h = tt
-proper-kept subtree (r ∷ l) h = (h .0 .0, proper-kept subtree l (h .1))
+pub all-sent : (v : Ledger Entry) (subtree : Bytes) → Sound (ledgerOf v) → AllOf (Sent subtree) (sentRows v subtree)
+all-sent v subtree s = all-onto (Sent subtree) empty (keep (under subtree) (v .rows)) tt (keep-all Proper (under subtree) (v .rows) (sound-rows v s))
 
 put-onto : (xs : Log (Bytes × Entry)) (l : Rows Entry) → putAll (onto xs l) ≡ setAll (putAll xs) (mapRows held l)
 unfolding putAll setAll mapRows
@@ -207,6 +202,5 @@ pub rows-taken : (v : Ledger Entry) (subtree : Bytes) → Sound (ledgerOf v) →
     → (clientAfter q C .live ≡ false) × (clientAfter q C .rows ≡ setAll [] (mapRows held (keep (under subtree) (v .rows))))
 unfolding putAll
 rows-taken v subtree s q C e =
-    let kept = keep-all Proper (under subtree) (v .rows) (sound-rows v s) in
-    let w = syncing q C (sentRows v subtree) e (all-onto empty (keep (under subtree) (v .rows)) tt (proper-kept subtree (keep (under subtree) (v .rows)) kept)) in
+    let w = syncing subtree q C (sentRows v subtree) e (all-sent v subtree s) in
     (w .0, w .1 ∙ put-onto empty (keep (under subtree) (v .rows)))

@@ -1,7 +1,7 @@
 -- A client that waits for a subtree accepts every message of an answer for it. Assumes nothing.
 use Prim.Native.Nat.{ℕ, suc, _-_, _≤_, _<_}
 use native.Mathlib.Omega.{arith}
-use mathlib.Core.Bool.{Bool, true, false, _&&_}
+use mathlib.Core.Bool.{true, false, and-false}
 use mathlib.Core.List.{[], _∷_}
 use mathlib.Core.Option.{none}
 use mathlib.Core.Path.{_≡_, refl, sym, ap, subst, _∙_}
@@ -10,7 +10,6 @@ use borrow.Author.Tests.{le-leb, lt-leb}
 use Rattle.base.proofs.CheckLaws.{pass-all}
 use Rattle.base.specs.Bytes.{Bytes, same}
 use Rattle.base.specs.Checks.{firstOf}
-use Rattle.cells.specs.Cells.{All}
 use Rattle.client.specs.Start.{startRefusal, startOf}
 use Rattle.client_plan.specs.Calls.Call.{snapshot}
 use Rattle.client_plan.specs.Calls.{Call as ClientCall}
@@ -27,23 +26,19 @@ use Rattle.names.specs.declared.order.Order.the-variants.{Less, Equal, Greater}
 use Rattle.names.specs.declared.order.Order.{Order}
 use Rattle.ports.specs.Ports.{snapshotPort}
 use Rattle.round_trip.proofs.ArrivalLaws.{not-kthxbai, kvsync-arrives, kthxbai-arrives}
-use Rattle.round_trip.proofs.RowsLaws.{Proper, keep-all}
+use Rattle.round_trip.proofs.RowsLaws.{Proper}
 use Rattle.rows.proofs.RowLaws.{length-keep}
 use Rattle.rows.specs.Rows.{Rows, place, setRow, keep}
 use Rattle.server_state.specs.Views.{Entry, Ledger, ledgerOf}
 use Rattle.joining.proofs.BookLaws.{Sound}
 use Rattle.joining.proofs.GrantLaws.{count}
-use Rattle.joining.proofs.LogLaws.{size, size-onto}
-use Rattle.joining.proofs.SnapshotLaws.{syncOf, endOf, sentRows, syncsOf, snapshotOf, mapLog, sound-rows, sound-number, sync-fields, end-word}
+use Rattle.joining.proofs.LogLaws.{AllOf, size, size-onto}
+use Rattle.joining.proofs.SnapshotLaws.{Sent, all-sent, syncOf, endOf, sentRows, syncsOf, snapshotOf, mapLog, sound-number, sync-fields, end-word}
 use Rattle.joining.specs.Ends.ClientStart.{wait}
 use Rattle.joining.specs.Ends.{ClientStart, clientStart, clientRefusal, clientNext, clientAfter, accepts, accepted}
 use Rattle.joining.specs.Logs.Log.{empty, _▷_}
-use Rattle.joining.specs.Logs.{Log, onto}
+use Rattle.joining.specs.Logs.{Log}
 use Rattle.joining.specs.Possible.{handedIn}
-
-and-no : (b : Bool) → (b && false) ≡ false
-and-no true = refl
-and-no false = refl
 
 length-put : (k a : Bytes) (l : Rows Bytes) → length (setRow k a l) ≤ suc (length l)
 unfolding setRow
@@ -69,7 +64,7 @@ module _ (v : Replica) (w : v .live ≡ false) where
     unfolding clientRefusal clientChecks firstOf
     row-passes =
         pass-all (snapshotPort (v .subtree) (syncOf r)) _ (kvsync-arrives (v .subtree) (r .0) (r .1 .value) (r .1 .number) (p .0) u (p .1 .0) (p .1 .1) .passes)
-        ∙ rw (w, row-word, lt-leb 64 (length (v .rows)) room, and-no)
+        ∙ rw (w, row-word, lt-leb 64 (length (v .rows)) room, and-false)
 
     row-next : clientNext v (snapshot (syncOf r)) ≡ effectNext v (sync (frameAt 0 (syncOf r)) (frameAt 4 (syncOf r)))
     unfolding clientNext acceptedNext
@@ -87,16 +82,12 @@ unfolding accepted accepts
 accepted-next q C b e = rw e
 
 -- ---- all of it
-abbrev Sendable : Bytes → Log (Bytes × Entry) → Type 0
-Sendable subtree empty = Unit {0}
-Sendable subtree (rs ▷ r) = Sendable subtree rs × (Proper r × (under subtree (r .0) ≡ true))
-
 -- a client that waits, is of a subtree and has at most n rows
 abbrev pub Waits : Replica → Bytes → ℕ → Type 0
 Waits v subtree n = (v .live ≡ false) × ((v .subtree ≡ subtree) × (length (v .rows) ≤ n))
 
 module _ (subtree : Bytes) (q : ClientStart) (begins : Waits (clientStart q) subtree 0) where
-  rows-taken : (rs : Log (Bytes × Entry)) → Sendable subtree rs → size rs ≤ 64
+  rows-taken : (rs : Log (Bytes × Entry)) → AllOf (Sent subtree) rs → size rs ≤ 64
       → (accepted q (handedIn (mapLog syncOf rs)) ≡ mapLog syncOf rs) × Waits (clientAfter q (handedIn (mapLog syncOf rs))) subtree (size rs)
   unfolding accepted clientAfter handedIn size effectNext
   rows-taken empty h k = (refl, begins)
@@ -119,15 +110,7 @@ module _ (subtree : Bytes) (q : ClientStart) (begins : Waits (clientStart q) sub
                 (w .0, (w .1 .0, omega (arith, length-put (frameAt 0 (syncOf r)) (frameAt 4 (syncOf r)) (v .rows), w .1 .1))),
           )
 
-sendable-onto : (subtree : Bytes) (xs : Log (Bytes × Entry)) (l : Rows Entry) → Sendable subtree xs → All (λ (r : Bytes × Entry). Proper r × (under subtree (r .0) ≡ true)) l
-    → Sendable subtree (onto xs l)
-sendable-onto subtree xs [] a h = a
-sendable-onto subtree xs (r ∷ l) a h = sendable-onto subtree (xs ▷ r) l (a, h .0) (h .1)
-
 module _ (v : Ledger Entry) (s : Sound (ledgerOf v)) (subtree : Bytes) (u : isSubtree subtree ≡ true) where
-  sendable : Sendable subtree (sentRows v subtree)
-  sendable = sendable-onto subtree empty (keep (under subtree) (v .rows)) tt (keep-all Proper (under subtree) (v .rows) (sound-rows v s))
-
   few : size (sentRows v subtree) ≤ 64
   unfolding size
   few = omega (arith, size-onto empty (keep (under subtree) (v .rows)), length-keep (under subtree) (v .rows), count v s)
@@ -135,7 +118,7 @@ module _ (v : Ledger Entry) (s : Sound (ledgerOf v)) (subtree : Bytes) (u : isSu
   pub answer-taken : (q : ClientStart) → Waits (clientStart q) subtree 0 → accepted q (handedIn (snapshotOf v subtree)) ≡ snapshotOf v subtree
   unfolding handedIn
   answer-taken q begins =
-      let i = rows-taken subtree q begins (sentRows v subtree) sendable few in
+      let i = rows-taken subtree q begins (sentRows v subtree) (all-sent v subtree s) few in
       let w = i .1 in
       let c : Replica = clientAfter q (handedIn (syncsOf v subtree)) in
       let passes : clientRefusal c (snapshot (endOf (v .number) subtree)) ≡ none =

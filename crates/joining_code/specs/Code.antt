@@ -19,16 +19,18 @@ use Rattle.server_state.specs.Views.{Entry, Ledger, view as ledger}
 use Rattle.server_state.specs.declared.Server.{Server}
 use Rattle.joining_code.specs.Runs.{ServerRan, ClientRan}
 
--- the call x, where v is held, gives the reply r, and the output `out` is then `after`
-pub record ServerSteps (v : Ledger Entry) (x : ServerCall) (out : Bytes) (r : ServerReply) (after : Bytes) : Type 0 where
-  pub answer : r .answer ≡ serverAnswer v x
-  pub next : ledger (r .state) ≡ serverNext v x
-  pub output : after ≡ put out 0 (serverBytes v x)
+-- a call left a state that holds `held`, an answer, and the output `out` as `after`: they are what a step of the run comes to
+pub record Steps {A : Type 0} (next : A) (answer : Answer) (bytes : Bytes) (held : A) (given : Answer) (out after : Bytes) : Type 0 where
+  pub answers : given ≡ answer
+  pub holds : held ≡ next
+  pub output : after ≡ put out 0 bytes
 
-pub record ClientSteps (v : Replica) (x : ClientCall) (out : Bytes) (c′ : Client) (a : Answer) (out′ : Bytes) : Type 0 where
-  pub answer : a ≡ clientAnswer v x
-  pub next : replica c′ ≡ clientNext v x
-  pub output : out′ ≡ put out 0 (clientBytes v x)
+-- the call x on a server that holds v, and on a client that does
+abbrev pub ServerSteps : Ledger Entry → ServerCall → Bytes → ServerReply → Bytes → Type 0
+ServerSteps v x out r after = Steps (serverNext v x) (serverAnswer v x) (serverBytes v x) (ledger (r .state)) (r .answer) out after
+
+abbrev pub ClientSteps : Replica → ClientCall → Bytes → Client → Answer → Bytes → Type 0
+ClientSteps v x out c′ a out′ = Steps (clientNext v x) (clientAnswer v x) (clientBytes v x) (replica c′) a out out′
 
 pub record Code (p : ServerStart) (S : Log ServerCall) (s : Server) (q : ClientStart) (C : Log ClientCall) (c : Client) : Type 0 where
   pub server : ledger s ≡ serverAfter p S
