@@ -45,7 +45,7 @@ module _ (p : ServerStart) (S : Log ServerCall) where
       subst (λ (T : Log ServerCall). Follows p T (clientAfter q C) (joinedAt j) (k .later)) (sym (k .asked))
       (follow p (k .before) (k .request) (k .room) (k .after) (k .granted) q C (k .later)
       (k .took ∙ ap (λ (a : Log Bytes). a ⧺ k .later) (answer-here p (k .before) (k .request) (k .room) (k .granted)))
-      (λ (b : Bytes) (a : Among b (k .later)). rw (k .asked) at (k .own b a)) (rw (k .asked) at (j .no-gap)))
+      (λ (b : Bytes) (a : Among b (k .later)). subst (λ (T : Log ServerCall). Among b (published p T)) (k .asked) (k .own b a)) (rw (k .asked) at (j .no-gap)))
 
   -- ---- a beginning of the client's list that has the whole answer
   no-gap-before : (q : ClientStart) (C D : Log ClientCall) → NoGap p S q (C ⧺ D) → NoGap p S q C

@@ -146,11 +146,12 @@ putAll : Log (Bytes × Entry) → Rows Bytes
 putAll empty = []
 putAll (rs ▷ r) = setRow (r .0) (r .1 .value) (putAll rs)
 
-abbrev Waits : Replica → Log (Bytes × Entry) → Type 0
-Waits v rs = (v .live ≡ false) × (v .rows ≡ putAll rs)
+-- a client that waits and has taken just these rows
+abbrev Took : Replica → Log (Bytes × Entry) → Type 0
+Took v rs = (v .live ≡ false) × (v .rows ≡ putAll rs)
 
 sync-step : (subtree : Bytes) {v v′ : Replica} {w h : Option Bytes} → Take v v′ w h → (A : Log Bytes) (rs : Log (Bytes × Entry)) → add A w ≡ mapLog syncOf rs → AllOf (Sent subtree) rs
-    → ((rs′ : Log (Bytes × Entry)) → A ≡ mapLog syncOf rs′ → AllOf (Sent subtree) rs′ → Waits v rs′) → Waits v′ rs
+    → ((rs′ : Log (Bytes × Entry)) → A ≡ mapLog syncOf rs′ → AllOf (Sent subtree) rs′ → Took v rs′) → Took v′ rs
 unfolding putAll effectNext
 sync-step subtree {v} {v′} {w} {h} (idle e f g) A rs q a ih = rw e (ih rs (rw f at q) a)
 sync-step subtree {v} {v′} {w} {h} (synced b l k e f g) A empty q a ih = absurd (empty-not-longer A b (sym (rw f at q)))
@@ -174,17 +175,17 @@ sync-step subtree {v} {v′} {w} {h} (moved b l k e f g) A empty q a ih = absurd
 sync-step subtree {v} {v′} {w} {h} (moved b l k e f g) A (rs ▷ r) q a ih =
     let q′ : A ▷ b ≡ mapLog syncOf rs ▷ syncOf r = rw f at q in absurd (true≢false (sym l ∙ ih rs (cc) (a .0) .0))
 
-start-waits : (q : ClientStart) → Waits (clientStart q) empty
+start-took : (q : ClientStart) → Took (clientStart q) empty
 unfolding clientStart startOf putAll
-start-waits (wait subtree t) = go (startRefusal subtree t)
+start-took (wait subtree t) = go (startRefusal subtree t)
   where
-    go : (r : Option Refusal) → Waits (ifAccepted r (waitingAt subtree t) (waitingAt [] 0)) empty
+    go : (r : Option Refusal) → Took (ifAccepted r (waitingAt subtree t) (waitingAt [] 0)) empty
     go none = (refl, refl)
     go (some r) = (refl, refl)
 
-syncing : (subtree : Bytes) (q : ClientStart) (C : Log ClientCall) (rs : Log (Bytes × Entry)) → accepted q C ≡ mapLog syncOf rs → AllOf (Sent subtree) rs → Waits (clientAfter q C) rs
+syncing : (subtree : Bytes) (q : ClientStart) (C : Log ClientCall) (rs : Log (Bytes × Entry)) → accepted q C ≡ mapLog syncOf rs → AllOf (Sent subtree) rs → Took (clientAfter q C) rs
 unfolding accepted clientAfter
-syncing subtree q empty empty e a = start-waits q
+syncing subtree q empty empty e a = start-took q
 syncing subtree q empty (rs ▷ r) e a = absurd (empty-not-longer (mapLog syncOf rs) (syncOf r) e)
 syncing subtree q (C ▷ x) rs e a = sync-step subtree (take (clientAfter q C) x) (accepted q C) rs e a (λ (rs′ : Log (Bytes × Entry)). syncing subtree q C rs′)
 

@@ -87,11 +87,11 @@ abbrev pub Waits : Replica → Bytes → ℕ → Type 0
 Waits v subtree n = (v .live ≡ false) × ((v .subtree ≡ subtree) × (length (v .rows) ≤ n))
 
 module _ (subtree : Bytes) (q : ClientStart) (begins : Waits (clientStart q) subtree 0) where
-  rows-taken : (rs : Log (Bytes × Entry)) → AllOf (Sent subtree) rs → size rs ≤ 64
+  rows-accepted : (rs : Log (Bytes × Entry)) → AllOf (Sent subtree) rs → size rs ≤ 64
       → (accepted q (handedIn (mapLog syncOf rs)) ≡ mapLog syncOf rs) × Waits (clientAfter q (handedIn (mapLog syncOf rs))) subtree (size rs)
   unfolding accepted clientAfter handedIn size effectNext
-  rows-taken empty h k = (refl, begins)
-  rows-taken (rs ▷ r) h k = go (rows-taken rs (h .0) (omega arith))
+  rows-accepted empty h k = (refl, begins)
+  rows-accepted (rs ▷ r) h k = go (rows-accepted rs (h .0) (omega arith))
     where
       C : Log ClientCall
       C = handedIn (mapLog syncOf rs)
@@ -118,7 +118,7 @@ module _ (v : Ledger Entry) (s : Sound (ledgerOf v)) (subtree : Bytes) (u : isSu
   pub answer-taken : (q : ClientStart) → Waits (clientStart q) subtree 0 → accepted q (handedIn (snapshotOf v subtree)) ≡ snapshotOf v subtree
   unfolding handedIn
   answer-taken q begins =
-      let i = rows-taken subtree q begins (sentRows v subtree) (all-sent v subtree s) few in
+      let i = rows-accepted subtree q begins (sentRows v subtree) (all-sent v subtree s) few in
       let w = i .1 in
       let c : Replica = clientAfter q (handedIn (syncsOf v subtree)) in
       let passes : clientRefusal c (snapshot (endOf (v .number) subtree)) ≡ none =

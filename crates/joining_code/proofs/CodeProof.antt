@@ -65,6 +65,11 @@ server-holds (server-began n t r b) = b .ledger
 server-holds (server-called p S s ran x out r after a) =
     server-step s (server-reached ran) x out r after a .holds ∙ ap (λ (v : Ledger Entry). serverNext v x) (server-holds ran)
 
+-- the step of a run that a call makes
+pub server-steps : {p : ServerStart} {S : Log ServerCall} {s : Server} → ServerRan p S s → (x : ServerCall) (out : Bytes) (r : ServerReply) (after : Bytes)
+    → ServerAnswered s x out r after → ServerSteps (serverAfter p S) x out r after
+server-steps {p} {S} {s} ran x out r after a = subst (λ (v : Ledger Entry). ServerSteps v x out r after) (server-holds ran) (server-step s (server-reached ran) x out r after a)
+
 -- ---- a client
 client-reached : {q : ClientStart} {C : Log ClientCall} {c : Client} → ClientRan q C c → ClientReached c
 client-reached (client-began subtree t r b) = client-reached-first subtree t r b
@@ -83,6 +88,11 @@ client-holds (client-began subtree t r b) = b .replica
 client-holds (client-called q C c ran x out c′ b out′ a) =
     client-step c (client-reached ran) x out c′ b out′ a .holds ∙ ap (λ (v : Replica). clientNext v x) (client-holds ran)
 
+pub client-steps : {q : ClientStart} {C : Log ClientCall} {c : Client} → ClientRan q C c → (x : ClientCall) (out : Bytes) (c′ : Client) (b : Answer) (out′ : Bytes)
+    → ClientAnswered c x out c′ b out′ → ClientSteps (clientAfter q C) x out c′ b out′
+client-steps {q} {C} {c} ran x out c′ b out′ a =
+    subst (λ (v : Replica). ClientSteps v x out c′ b out′) (client-holds ran) (client-step c (client-reached ran) x out c′ b out′ a)
+
 -- ---- both
 pub linked : Linked
 linked p S s q C c ran ran′ =
@@ -91,11 +101,9 @@ linked p S s q C c ran ran′ =
     let theorem = joining p S in
     record {
       server = holds;
-      server-steps = λ (x : ServerCall) (out : Bytes) (r : ServerReply) (after : Bytes) (a : ServerAnswered s x out r after).
-          subst (λ (v : Ledger Entry). ServerSteps v x out r after) holds (server-step s (server-reached ran) x out r after a);
+      server-steps = server-steps ran;
       client = holds′;
-      client-steps = λ (x : ClientCall) (out : Bytes) (c′ : Client) (b : Answer) (out′ : Bytes) (a : ClientAnswered c x out c′ b out′).
-          subst (λ (v : Replica). ClientSteps v x out c′ b out′) holds′ (client-step c (client-reached ran′) x out c′ b out′ a);
+      client-steps = client-steps ran′;
       number = ap (λ (v : Ledger Entry). v .number) holds ∙ theorem .number;
       map = ap heldBy holds ∙ theorem .map;
       follows = λ (j : Joined p S q C).

@@ -7,13 +7,9 @@ use server::kvset;
 use server::start;
 use server_clock::tick;
 use server_plan::Reply;
-ghost use lib.ListN.{length};
-ghost use Rattle.client_plan.specs.Calls.Call.{snapshot, subscriber, writeIcanhaz, writeKvset, ask, lookup};
 ghost use Rattle.joining.specs.Book.ServerStart.{begin};
 ghost use Rattle.joining.specs.Ends.ClientStart.{wait};
-ghost use Rattle.joining.specs.Logs.Log.{empty, _▷_};
-ghost use Rattle.joining_code.specs.Runs.{ServerRan, ClientRan};
-ghost use Rattle.server_plan.specs.Calls.Call.{kvset as asked, tick as passed, icanhaz as requested};
+ghost use Rattle.joining_code.specs.Sessions.{Served, Followed};
 
 // A server: an update, a tick, and a snapshot.
 pub fn serve<'a>(
@@ -26,7 +22,7 @@ pub fn serve<'a>(
     expiry: &'a mut [u8],
     snapshot: &'a mut [u8],
 ) -> Reply
-    ensures { λ r. ⌜ ServerRan (begin (number .0) (began .0)) (empty ▷ asked (now (msg .entry)) (at .0) (length (now (update .entry))) ▷ passed (at .0) (length (now (expiry .entry))) ▷ requested (now (request .entry)) (length (now (snapshot .entry)))) (r .state) ⌝ }
+    ensures { λ r. ⌜ Served (begin (number .0) (began .0)) (now (msg .entry)) (now (request .entry)) (at .0) (now (update .entry)) (now (expiry .entry)) (now (snapshot .entry)) r (now (update .exit)) (now (expiry .exit)) (now (snapshot .exit)) ⌝ }
 {
     let fresh = start::start(number, began);
     let set = kvset::kvset(fresh.state, msg, at, update);
@@ -49,7 +45,7 @@ pub fn follow<'a>(
     update: &'a mut [u8],
     found: &'a mut [u8],
 ) -> Client
-    ensures { λ c. ⌜ ClientRan (wait (now (subtree .entry)) (began .0)) (empty ▷ writeIcanhaz (length (now (request .entry))) ▷ snapshot (now (row .entry)) ▷ subscriber (now (news .entry)) (at .0) ▷ writeKvset (now (key .entry)) (now (uuid .entry)) (now (properties .entry)) (now (value .entry)) (length (now (update .entry))) ▷ ask (at .0) ▷ lookup (now (key .entry)) (length (now (found .entry)))) c ⌝ }
+    ensures { λ c. ⌜ Followed (wait (now (subtree .entry)) (began .0)) (now (row .entry)) (now (news .entry)) (at .0) (now (key .entry)) (now (uuid .entry)) (now (properties .entry)) (now (value .entry)) (now (request .entry)) (now (update .entry)) (now (found .entry)) c (now (request .exit)) (now (update .exit)) (now (found .exit)) ⌝ }
 {
     let fresh = client::start::start(subtree, began);
     client_queries::write::write_icanhaz(fresh.state, request);

@@ -1,4 +1,5 @@
 use borrow.Author.Needs.{needs}
+use Rattle.joining_code.proofs.CodeProof.{client-steps}
 use Rattle.joining_code.specs.Runs.ClientRan.{began, called}
 use Rattle.joining_code.proofs.session.follow.Statement.{statement}
 use Rattle.joining_code.proofs.session.follow.Tie as tie
@@ -61,7 +62,12 @@ returns c =
     let told = called _ _ _ synced _ _ _ _ _ (c .before .before .before .before .before .before .before .before .before .before .subscriber .ensures) in
     let updated = called _ _ _ told _ _ _ _ _ (c .before .before .before .before .before .before .before .before .write-kvset .ensures) in
     let watched = called _ _ _ updated _ _ _ _ _ (c .before .before .before .before .before .ask .ensures) in
-    called _ _ _ watched _ _ _ _ _ (c .before .before .before .lookup .ensures)
+    record {
+      ran = called _ _ _ watched _ _ _ _ _ (c .before .before .before .lookup .ensures);
+      requests = client-steps begun _ _ _ _ _ (c .before .before .before .before .before .before .before .before .before .before .before .before .before .before .write-icanhaz .ensures) .output;
+      updates = client-steps told _ _ _ _ _ (c .before .before .before .before .before .before .before .before .write-kvset .ensures) .output;
+      finds = client-steps watched _ _ _ _ _ (c .before .before .before .lookup .ensures) .output;
+    }
 
 pub follow-spec : {M : Type 1} → statement M
 follow-spec =

@@ -1,4 +1,5 @@
 use borrow.Author.Needs.{needs}
+use Rattle.joining_code.proofs.CodeProof.{server-steps}
 use Rattle.joining_code.specs.Runs.ServerRan.{began, called}
 use Rattle.joining_code.proofs.session.serve.Statement.{statement}
 use Rattle.joining_code.proofs.session.serve.Tie as tie
@@ -43,7 +44,14 @@ returns c =
     let begun = began _ _ _ (c .before .before .before .before .before .before .before .before .before .before .before .before .start .ensures) in
     let updated = called _ _ _ begun _ _ _ _ (c .before .before .before .before .before .before .before .before .before .before .kvset .ensures) in
     let timed = called _ _ _ updated _ _ _ _ (c .before .before .before .before .before .before .tick .ensures) in
-    called _ _ _ timed _ _ _ _ (c .before .before .icanhaz .ensures)
+    let last = server-steps timed _ _ _ _ (c .before .before .icanhaz .ensures) in
+    record {
+      ran = called _ _ _ timed _ _ _ _ (c .before .before .icanhaz .ensures);
+      answer = last .answers;
+      updates = server-steps begun _ _ _ _ (c .before .before .before .before .before .before .before .before .before .before .kvset .ensures) .output;
+      expires = server-steps updated _ _ _ _ (c .before .before .before .before .before .before .tick .ensures) .output;
+      sends = last .output;
+    }
 
 pub serve-spec : {M : Type 1} → statement M
 serve-spec =
