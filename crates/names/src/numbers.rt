@@ -4,9 +4,11 @@ ghost use mathlib.Core.Path.{_≡_};
 ghost use Rattle.names.specs.Numbers.{numberedOf, isKept, isTime};
 
 // The number of an update.
+#[repr(C)]
 pub struct Sequence(pub u64);
 
 // A time in milliseconds.
+#[repr(C)]
 pub struct Tick(pub u64);
 
 pub const MAX_SEQUENCE: u64 = 9223372036854775807;

@@ -10,11 +10,14 @@ use messages::write;
 use names::numbers::Tick;
 use properties::read::Lifetime;
 use properties::read::Properties;
+use server_plan::Outcome;
 use server_plan::Reply;
 use server_plan::kvset::Plan;
 use server_plan::number;
+use server_state::Header;
 use server_state::NEVER;
 use server_state::Server;
+use table::Table;
 use table::change;
 use table::row;
 ghost use mathlib.Core.Bool.{true};
@@ -26,6 +29,7 @@ ghost use Rattle.properties.specs.Properties.{propertiesOf};
 ghost use Rattle.server_state.specs.IllFormed.{isExpiry};
 ghost use Rattle.server_state.specs.Views.{expiryIn};
 ghost use Rattle.server_plan.specs.Calls.{kvset as asked};
+ghost use Rattle.server_plan.specs.Lent.{lent, ended};
 ghost use Rattle.server_plan.specs.Next.{expiryAt};
 ghost use Rattle.server_plan.specs.Promises.{Answered};
 
@@ -43,19 +47,35 @@ fn expiry_at(tick: Tick, properties: &[u8]) -> u64
     }
 }
 
-// KVSET: a message of five frames, whose update is made at a tick and published in the output.
-pub fn kvset(mut s: Server, msg: &[u8], tick: Tick, out: &mut [u8]) -> Reply
-    ensures { λ r. ⌜ Answered s (asked (now (msg .entry)) (tick .0) (length (now (out .entry)))) (now (out .entry)) r (now (out .exit)) ⌝ }
+// KVSET on a state whose columns are lent: a message of five frames, whose update is made at a tick and published in the output.
+pub fn kvset_lent(
+    keys: &mut [u8; 6400],
+    values: &mut [u8; 16384],
+    key_lengths: &mut [u64; 64],
+    value_lengths: &mut [u64; 64],
+    numbers: &mut [u64; 64],
+    expiries: &mut [u64; 64],
+    count: usize,
+    header: Header,
+    msg: &[u8],
+    tick: Tick,
+    out: &mut [u8],
+) -> Outcome
+    ensures { λ r. ⌜ Answered (lent (now (keys .entry)) (now (values .entry)) (now («key_lengths» .entry)) (now («value_lengths» .entry)) (now (numbers .entry)) (now (expiries .entry)) count header) (asked (now (msg .entry)) (tick .0) (length (now (out .entry)))) (now (out .entry)) (ended (now (keys .exit)) (now (values .exit)) (now («key_lengths» .exit)) (now («value_lengths» .exit)) (now (numbers .exit)) (now (expiries .exit)) r) (now (out .exit)) ⌝ }
 {
-    let count = s.table.count;
-    let mut header = s.header;
+    // As slices the columns tell how many they hold.
+    let value_bytes: &[u8] = values;
+    let key_column: &[u64] = key_lengths;
+    let value_column: &[u64] = value_lengths;
+    let number_column: &[u64] = numbers;
+    let expiry_column: &[u64] = expiries;
     let last = header.number;
     match server_plan::kvset::plan_kvset(
-        &s.table.keys,
-        &s.table.key_lengths,
-        &s.table.value_lengths,
-        &s.numbers,
-        &s.expiries,
+        keys,
+        key_lengths,
+        value_lengths,
+        numbers,
+        expiries,
         count,
         header,
         msg,
@@ -64,7 +84,11 @@ pub fn kvset(mut s: Server, msg: &[u8], tick: Tick, out: &mut [u8]) -> Reply
     ) {
         Plan::Refuse(r) => {
             let answer = answer::without_output(Kind::Refused(r, last));
-            return Reply { state: s, answer };
+            return Outcome {
+                count,
+                header,
+                answer,
+            };
         }
         Plan::Go(change) => {
             let key = read::body(msg, HEAD);
@@ -73,25 +97,64 @@ pub fn kvset(mut s: Server, msg: &[u8], tick: Tick, out: &mut [u8]) -> Reply
             let value = read::body(msg, VALUE);
             let fresh = row::fresh_row(key, value);
             let number = number::next_number(last);
-            change::change_keys(&mut s.table.keys, change, count, &fresh.key);
-            change::change_values(&mut s.table.values, change, count, &fresh.value);
-            change::change_numbers(&mut s.table.key_lengths, change, count, fresh.key_length);
-            change::change_numbers(
-                &mut s.table.value_lengths,
-                change,
-                count,
-                fresh.value_length,
-            );
-            change::change_numbers(&mut s.numbers, change, count, number.0);
-            change::change_numbers(&mut s.expiries, change, count, expiry_at(tick, properties));
-            s.table.count = change::count_after(change, count);
-            header.number = number;
-            header.last_tick = tick;
-            header.last_published = tick;
-            s.header = header;
+            change::change_keys(keys, change, count, &fresh.key);
+            change::change_values(values, change, count, &fresh.value);
+            change::change_numbers(key_lengths, change, count, fresh.key_length);
+            change::change_numbers(value_lengths, change, count, fresh.value_length);
+            change::change_numbers(numbers, change, count, number.0);
+            change::change_numbers(expiries, change, count, expiry_at(tick, properties));
             let written = write::write_kvpub(out, 0, number, key, uuid, properties, value);
-            let answer = answer::with_output(Kind::Wrote(number), written);
-            Reply { state: s, answer }
+            Outcome {
+                count: change::count_after(change, count),
+                header: Header {
+                    number,
+                    last_tick: tick,
+                    last_published: tick,
+                },
+                answer: answer::with_output(Kind::Wrote(number), written),
+            }
         }
+    }
+}
+
+// KVSET on a state by value.
+pub fn kvset(s: Server, msg: &[u8], tick: Tick, out: &mut [u8]) -> Reply
+    ensures { λ r. ⌜ Answered s (asked (now (msg .entry)) (tick .0) (length (now (out .entry)))) (now (out .entry)) r (now (out .exit)) ⌝ }
+{
+    let mut keys = s.table.keys;
+    let mut values = s.table.values;
+    let mut key_lengths = s.table.key_lengths;
+    let mut value_lengths = s.table.value_lengths;
+    let mut numbers = s.numbers;
+    let mut expiries = s.expiries;
+    let r = kvset_lent(
+        &mut keys,
+        &mut values,
+        &mut key_lengths,
+        &mut value_lengths,
+        &mut numbers,
+        &mut expiries,
+        s.table.count,
+        s.header,
+        msg,
+        tick,
+        out,
+    );
+    let header = r.header;
+    let answer = r.answer;
+    Reply {
+        state: Server {
+            table: Table {
+                keys,
+                values,
+                key_lengths,
+                value_lengths,
+                count: r.count,
+            },
+            numbers,
+            expiries,
+            header,
+        },
+        answer,
     }
 }

@@ -1,6 +1,7 @@
 pub mod Answers
 pub mod Calls
 pub mod Deeds
+pub mod Lent
 pub mod Next
 pub mod Output
 pub mod Plans

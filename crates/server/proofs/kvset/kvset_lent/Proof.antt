@@ -1,4 +1,4 @@
--- `server::kvset::kvset` meets its contract: the checks come to a plan, and what is planned is made in every column and published.
+-- `server::kvset::kvset_lent` meets its contract: the checks come to a plan, and what is planned is made in every column and published.
 -- Assumes nothing.
 use native.Mathlib.Omega.{arith}
 use mathlib.Core.List.{List, _++_}
@@ -26,22 +26,46 @@ use Rattle.table.specs.Changes.{changed, Fits}
 use Rattle.answers.specs.declared.refusal.Refusal.{Refusal}
 use Rattle.table.specs.declared.change.Change.{Change}
 use Rattle.table.specs.Find.{placeOf, changeTo}
-use Rattle.server.proofs.kvset.kvset.Statement.{statement}
-use Rattle.server.proofs.kvset.kvset.Tie as tie
+use Rattle.server_plan.specs.Lent.{lent}
+use Rattle.server_state.specs.declared.Server.{Server}
+use Rattle.server.proofs.kvset.kvset_lent.Statement.{statement}
+use Rattle.server.proofs.kvset.kvset_lent.Tie as tie
 
--- how long the columns are
-sized : (s : tie.Start) → SizedServer (s .args .t1)
-sized s = record { table = record { values = search needs; key-lengths = search needs; value-lengths = search needs }; numbers = search needs; expiries = search needs }
-
-abbrev table : tie.Start → List (Check Refusal)
-table s = illFormsOf (s .args .t1) ++ kvsetTable (s .args .t1) (now (s .args .msg)) (s .args .tick .0) (length (now (s .args .out)))
-
-abbrev change : tie.Start → Change
-change s = changeTo (isNil (frameAt 4 (now (s .args .msg)))) (placeOf 0 (frameAt 0 (now (s .args .msg))) (keysOf (s .args .t1)))
+-- the state whose columns are lent
+abbrev state : tie.Start → Server
+state s =
+    let a = s .args in
+    lent (now (a .keys)) (now (a .values)) (now (a .key-lengths)) (now (a .value-lengths)) (now (a .numbers)) (now (a .expiries)) (a .count) (a .header)
 
 -- where the function begins
 abbrev begin : tie.After-plan-kvset → tie.Start
-begin p = p .before .before .before .before .before .before .before .before .before .before .before
+begin p = p .before .before .before .before .before .before .before .before .before .before .before .before .before .before .before .before .before .before .before
+
+-- how long the columns are
+values-sized : (c : tie.After-plan-kvset) → length (now (c .before .before .before .before .before .before .before .before .before .before .before .before .before .before .before .before .before .before .before .args .values)) ≡ 16384
+values-sized c = search needs
+
+key-lengths-sized : (c : tie.After-plan-kvset) → length (now (c .before .before .before .before .before .before .before .before .before .before .before .before .before .before .before .before .before .before .before .args .key-lengths)) ≡ 64
+key-lengths-sized c = search needs
+
+value-lengths-sized : (c : tie.After-plan-kvset) → length (now (c .before .before .before .before .before .before .before .before .before .before .before .before .before .before .before .before .before .before .before .args .value-lengths)) ≡ 64
+value-lengths-sized c = search needs
+
+numbers-sized : (c : tie.After-plan-kvset) → length (now (c .before .before .before .before .before .before .before .before .before .before .before .before .before .before .before .before .before .before .before .args .numbers)) ≡ 64
+numbers-sized c = search needs
+
+expiries-sized : (c : tie.After-plan-kvset) → length (now (c .before .before .before .before .before .before .before .before .before .before .before .before .before .before .before .before .before .before .before .args .expiries)) ≡ 64
+expiries-sized c = search needs
+
+sized : (c : tie.After-plan-kvset) → SizedServer (state (begin c))
+sized c =
+    record { table = record { values = values-sized c; key-lengths = key-lengths-sized c; value-lengths = value-lengths-sized c }; numbers = numbers-sized c; expiries = expiries-sized c }
+
+abbrev table : tie.Start → List (Check Refusal)
+table s = illFormsOf (state s) ++ kvsetTable (state s) (now (s .args .msg)) (s .args .tick .0) (length (now (s .args .out)))
+
+abbrev change : tie.Start → Change
+change s = changeTo (isNil (frameAt 4 (now (s .args .msg)))) (placeOf 0 (frameAt 0 (now (s .args .msg))) (keysOf (state s)))
 
 -- ---- a plan that goes on
 abbrev start : tie.After-change → tie.Start
@@ -55,10 +79,11 @@ planned : (c : tie.After-change) → c .change .given .0 .0 ≡ change (start c)
 unfolding illFormsOf
 planned c = goes-with (firstOf (table (start c))) (change (start c)) (c .before .before .plan-kvset .ensures) (c .change .given .1)
 
-fit : (c : tie.After-change) → Fits (c .change .given .0 .0) (start c .args .t1 .table .count)
+fit : (c : tie.After-change) → Fits (c .change .given .0 .0) (start c .args .count)
 fit c =
-    let s = start c in
-    rw (planned c) (change-is-fit (s .args .t1) (sized s) (now (s .args .msg)) (s .args .tick .0) (length (now (s .args .out))) (passed c))
+    let q = c .before .before in
+    let s = begin q in
+    rw (planned c) (change-is-fit (state s) (sized q) (now (s .args .msg)) (s .args .tick .0) (length (now (s .args .out))) (passed c))
 
 -- a plan that does not
 stopped : (c : tie.After-plan-kvset) {r : Refusal} → c .plan-kvset .result ≡ Refuse r → firstOf (table (begin c)) ≡ some r
@@ -78,7 +103,7 @@ returns : tie.Need-returns
 returns c =
     let p = c .before .before .before .before in
     let s = begin p in
-    refused-call (s .args .t1) (kvset (now (s .args .msg)) (s .args .tick .0) (length (now (s .args .out)))) _ _ _ (sym (kvset-refusal (s .args .t1) (sized s) (now (s .args .msg)) (s .args .tick .0) (length (now (s .args .out)))) ∙ stopped p (c .before .before .r .given .1)) refl (c .without-output .ensures)
+    refused-call (state s) (kvset (now (s .args .msg)) (s .args .tick .0) (length (now (s .args .out)))) _ _ _ (sym (kvset-refusal (state s) (sized p) (now (s .args .msg)) (s .args .tick .0) (length (now (s .args .out)))) ∙ stopped p (c .before .before .r .given .1)) refl (c .without-output .ensures)
 
 enum-known-change : tie.Need-enum-known-change
 enum-known-change c = search needs
@@ -98,15 +123,17 @@ body-requires-4 c κs = search needs
 fresh-row-requires : tie.Need-fresh-row-requires
 fresh-row-requires c κs =
     let g = c .before .before .before .before .before in
-    let s = start g in
-    let f = frames-are (s .args .t1) (sized s) (now (s .args .msg)) (s .args .tick .0) (length (now (s .args .out))) (passed g) in
-    (rw (c .before .before .before .body .ensures, f 0 (omega arith)) (key-short (s .args .t1) (sized s) (now (s .args .msg)) (s .args .tick .0) (length (now (s .args .out))) (passed g)), rw (c .body4 .ensures, f 4 (omega arith)) (value-short (s .args .t1) (sized s) (now (s .args .msg)) (s .args .tick .0) (length (now (s .args .out))) (passed g)))
+    let q = g .before .before in
+    let s = begin q in
+    let f = frames-are (state s) (sized q) (now (s .args .msg)) (s .args .tick .0) (length (now (s .args .out))) (passed g) in
+    (rw (c .before .before .before .body .ensures, f 0 (omega arith)) (key-short (state s) (sized q) (now (s .args .msg)) (s .args .tick .0) (length (now (s .args .out))) (passed g)), rw (c .body4 .ensures, f 4 (omega arith)) (value-short (state s) (sized q) (now (s .args .msg)) (s .args .tick .0) (length (now (s .args .out))) (passed g)))
 
 next-number-requires : tie.Need-next-number-requires
 next-number-requires c κs =
     let g = c .before .before .before .before .before .before in
-    let s = start g in
-    number-left (s .args .t1) (sized s) (now (s .args .msg)) (s .args .tick .0) (length (now (s .args .out))) (passed g)
+    let q = g .before .before in
+    let s = begin q in
+    number-left (state s) (sized q) (now (s .args .msg)) (s .args .tick .0) (length (now (s .args .out))) (passed g)
 
 change-keys-requires : tie.Need-change-keys-requires
 change-keys-requires c κs = fit (c .before .before .before .before .before .before .before .before .before .before)
@@ -126,17 +153,18 @@ change-numbers-requires-3 c κs = fit (c .before .before .before .before .before
 expiry-at-requires : tie.Need-expiry-at-requires
 expiry-at-requires c κs =
     let g = c .before .before .before .before .before .before .before .before .before .before .before .before .before .before .before .before .before .before .before .before .before .before in
-    let s = start g in
-    in-time (s .args .t1) (sized s) (now (s .args .msg)) (s .args .tick .0) (length (now (s .args .out))) (passed g)
+    let q = g .before .before in
+    let s = begin q in
+    in-time (state s) (sized q) (now (s .args .msg)) (s .args .tick .0) (length (now (s .args .out))) (passed g)
 
 change-numbers-requires-4 : tie.Need-change-numbers-requires-4
 change-numbers-requires-4 c κs = fit (c .before .before .before .before .before .before .before .before .before .before .before .before .before .before .before .before .before .before .before .before .before .before .before)
 
-count-after-requires : tie.Need-count-after-requires
-count-after-requires c κs = fit (c .before .before .before .before .before .before .before .before .before .before .before .before .before .before .before .before .before .before .before .before .before .before .before .before)
-
 write-kvpub-requires : tie.Need-write-kvpub-requires
 write-kvpub-requires c κs = search needs
+
+count-after-requires : tie.Need-count-after-requires
+count-after-requires c κs = fit (c .before .before .before .before .before .before .before .before .before .before .before .before .before .before .before .before .before .before .before .before .before .before .before .before .before .before .before .before)
 
 with-output-requires : tie.Need-with-output-requires
 with-output-requires c κs = search needs
@@ -146,8 +174,8 @@ same-length c = search needs
 
 returns-2 : tie.Need-returns-2
 returns-2 c =
-    let written = c .before .before .before in
-    let expiries = c .before .before .before .before .before .before .before in
+    let written = c .before .before .before .before in
+    let expiries = c .before .before .before .before .before .before in
     let numbers = expiries .before .before .before in
     let lengths2 = numbers .before .before in
     let lengths = lengths2 .before .before in
@@ -157,9 +185,10 @@ returns-2 c =
     let fresh = next .before in
     let value = fresh .before in
     let g = value .before .before .before .before .before in
-    let s = start g in
+    let q = g .before .before in
+    let s = begin q in
     let a = s .args in
-    let f = frames-are (a .t1) (sized s) (now (a .msg)) (a .tick .0) (length (now (a .out))) (passed g) in
+    let f = frames-are (state s) (sized q) (now (a .msg)) (a .tick .0) (length (now (a .out))) (passed g) in
     let key-is = value .before .before .before .body .ensures ∙ f 0 (omega arith) in
     let uuid-is = value .before .before .body2 .ensures ∙ f 2 (omega arith) in
     let properties-is = value .before .body3 .ensures ∙ f 3 (omega arith) in
@@ -167,16 +196,16 @@ returns-2 c =
     let number = next .next-number in
     let lasts = expiries .before .expiry-at in
     let made = g .change .given .0 .0 in
-    kvset-done (a .t1) (sized s) (now (a .msg)) (a .tick .0) (length (now (a .out))) (passed g) made (planned g) _
+    kvset-done (state s) (sized q) (now (a .msg)) (a .tick .0) (length (now (a .out))) (passed g) made (planned g) _
     (record {
       table = record {
         of-keys = keys .change-keys .ensures;
         of-values = values .change-values .ensures;
         of-key-lengths = lengths .change-numbers .ensures;
         of-value-lengths = lengths2 .change-numbers2 .ensures;
-        of-count = c .before .before .before .before .before .before .count-after .ensures;
+        of-count = c .before .count-after .ensures;
       };
-      of-numbers = numbers .change-numbers3 .ensures ∙ ap (λ (q : Sequence). changed made (q .0) (take (a .t1 .table .count) (a .t1 .numbers))) (number .ensures);
+      of-numbers = numbers .change-numbers3 .ensures ∙ ap (λ (q : Sequence). changed made (q .0) (take (a .count) (now (a .numbers)))) (number .ensures);
       of-expiries = expiries .change-numbers4 .ensures;
     })
     (ap (λ (q : Sequence). record { number = q; «last_tick» = a .tick; «last_published» = a .tick }) (number .ensures))
@@ -186,8 +215,8 @@ returns-2 c =
     (written-as _ (fieldsOf (now (a .msg))) (number .ensures) key-is uuid-is properties-is value-is (written .write-kvpub .ensures)) refl
     (c .with-output .ensures ∙ ap (λ (q : Sequence). answer (Wrote q) (written .write-kvpub .result)) (number .ensures))
 
-pub kvset-spec : {M : Type 1} → statement M
-kvset-spec =
+pub kvset-lent-spec : {M : Type 1} → statement M
+kvset-lent-spec =
     tie.close
     (tie.spec
     plan-kvset-requires
@@ -208,8 +237,8 @@ kvset-spec =
     change-numbers-requires-3
     expiry-at-requires
     change-numbers-requires-4
-    count-after-requires
     write-kvpub-requires
+    count-after-requires
     with-output-requires
     same-length
     returns-2)

@@ -1,0 +1,4 @@
+pub mod Apart
+pub mod Forms
+pub mod Made
+pub mod PlaceLaws
