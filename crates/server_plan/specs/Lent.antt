@@ -1,6 +1,7 @@
 -- A state whose columns are lent one by one, with the count of its rows and its header beside them.
 use Prim.Native.Nat.{ℕ}
 use mathlib.Core.List.{List}
+use Rattle.answers.specs.declared.answer.Answer.{Answer}
 use Rattle.base.specs.Bytes.{Bytes}
 use Rattle.server_plan.specs.declared.Outcome.{Outcome}
 use Rattle.server_plan.specs.declared.Reply.{Reply}
@@ -21,3 +22,7 @@ lent keys values keyLengths valueLengths numbers expiries count header =
 abbrev pub ended : (keys values : Bytes) (keyLengths valueLengths numbers expiries : List ℕ) → Outcome → Reply
 ended keys values keyLengths valueLengths numbers expiries r =
     record { state = lent keys values keyLengths valueLengths numbers expiries (r .count) (r .header); answer = r .answer }
+
+-- the reply of a call that leaves the state as it is
+abbrev pub unchanged : Server → Answer → Reply
+unchanged s a = record { state = s; answer = a }

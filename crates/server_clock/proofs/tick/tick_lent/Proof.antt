@@ -1,0 +1,210 @@
+-- `server_clock::tick::tick_lent` meets its contract: it does what was planned. A row that expires is taken out of every column once its removal is
+-- written; a sign of life is written; each of them, and a Tick with nothing to do, notes its time. Assumes nothing.
+use mathlib.Core.List.{[]}
+use mathlib.Core.Path.{_≡_, refl}
+use denote.Ref.{now}
+use borrow.Author.Needs.{needs}
+use Rattle.server_clock.proofs.TickLaws.{RowKnown, row-holds, tick-refused, tick-quiet, tick-beat, tick-expired}
+use Rattle.server_state.specs.Views.{SizedServer}
+use lib.ListN.{length}
+use Rattle.server_plan.specs.Lent.{lent}
+use Rattle.server_state.specs.declared.Server.{Server}
+use Rattle.server_clock.proofs.tick.tick_lent.Statement.{statement}
+use Rattle.server_clock.proofs.tick.tick_lent.Tie as tie
+
+-- the state whose columns are lent
+abbrev state : tie.Start → Server
+state s =
+    let a = s .args in
+    lent (now (a .keys)) (now (a .values)) (now (a .key-lengths)) (now (a .value-lengths)) (now (a .numbers)) (now (a .expiries)) (a .count) (a .header)
+
+-- how long the columns are
+values-sized : (c : tie.After-plan-tick) → length (now (c .before .before .before .before .before .before .before .before .before .before .before .before .before .before .before .before .before .before .args .values)) ≡ 16384
+values-sized c = search needs
+
+key-lengths-sized : (c : tie.After-plan-tick) → length (now (c .before .before .before .before .before .before .before .before .before .before .before .before .before .before .before .before .before .before .args .key-lengths)) ≡ 64
+key-lengths-sized c = search needs
+
+value-lengths-sized : (c : tie.After-plan-tick) → length (now (c .before .before .before .before .before .before .before .before .before .before .before .before .before .before .before .before .before .before .args .value-lengths)) ≡ 64
+value-lengths-sized c = search needs
+
+numbers-sized : (c : tie.After-plan-tick) → length (now (c .before .before .before .before .before .before .before .before .before .before .before .before .before .before .before .before .before .before .args .numbers)) ≡ 64
+numbers-sized c = search needs
+
+expiries-sized : (c : tie.After-plan-tick) → length (now (c .before .before .before .before .before .before .before .before .before .before .before .before .before .before .before .before .before .before .args .expiries)) ≡ 64
+expiries-sized c = search needs
+
+sized : (c : tie.After-plan-tick) → SizedServer (state (c .before .before .before .before .before .before .before .before .before .before .before .before .before .before .before .before .before .before))
+sized c =
+    record { table = record { values = values-sized c; key-lengths = key-lengths-sized c; value-lengths = value-lengths-sized c }; numbers = numbers-sized c; expiries = expiries-sized c }
+
+-- where the function begins
+abbrev begin : tie.After-plan-tick → tie.Start
+begin p = p .before .before .before .before .before .before .before .before .before .before .before .before .before .before .before .before .before .before
+
+-- what is known of the row that expires
+known : (c : tie.After-i) → RowKnown (state (begin (c .before .before))) (c .i .given .0 .0)
+known c =
+    let p = c .before .before in
+    let s = begin p in
+    row-holds (state s) (s .args .tick) (now (s .args .out)) (sized p) (p .plan-tick .ensures) (c .i .given .0 .0) (c .i .given .1)
+
+plan-tick-requires : tie.Need-plan-tick-requires
+plan-tick-requires c κs = search needs
+
+enum-known-r : tie.Need-enum-known-r
+enum-known-r c = search needs
+
+without-output-requires : tie.Need-without-output-requires
+without-output-requires c κs = search needs
+
+returns : tie.Need-returns
+returns c =
+    let r = c .before .before in
+    let p = r .before .before in
+    let s = begin p in
+    tick-refused (state s) (s .args .tick) (now (s .args .out)) (sized p) (p .plan-tick .ensures) _ (r .r .given .0 .0) (r .r .given .1) refl (c .without-output .ensures)
+
+enum-known-i : tie.Need-enum-known-i
+enum-known-i c = search needs
+
+next-number-requires : tie.Need-next-number-requires
+next-number-requires c κs = known (c .before) .number
+
+key-at-requires : tie.Need-key-at-requires
+key-at-requires c κs = known (c .before .before .before .before) .key
+
+slice-aggregate-write-kvpub : tie.Need-slice-aggregate-write-kvpub
+slice-aggregate-write-kvpub c = search needs
+
+slice-aggregate-write-kvpub-2 : tie.Need-slice-aggregate-write-kvpub-2
+slice-aggregate-write-kvpub-2 c = search needs
+
+slice-aggregate-write-kvpub-3 : tie.Need-slice-aggregate-write-kvpub-3
+slice-aggregate-write-kvpub-3 c = search needs
+
+write-kvpub-requires : tie.Need-write-kvpub-requires
+write-kvpub-requires c κs = search needs
+
+change-keys-requires : tie.Need-change-keys-requires
+change-keys-requires c κs = known (c .before .before .before .before .before .before .before .before .before .before .before .before .before .before) .fits
+
+change-values-requires : tie.Need-change-values-requires
+change-values-requires c κs = known (c .before .before .before .before .before .before .before .before .before .before .before .before .before .before .before .before .before) .fits
+
+change-numbers-requires : tie.Need-change-numbers-requires
+change-numbers-requires c κs = known (c .before .before .before .before .before .before .before .before .before .before .before .before .before .before .before .before .before .before .before) .fits
+
+change-numbers-requires-2 : tie.Need-change-numbers-requires-2
+change-numbers-requires-2 c κs = known (c .before .before .before .before .before .before .before .before .before .before .before .before .before .before .before .before .before .before .before .before .before) .fits
+
+change-numbers-requires-3 : tie.Need-change-numbers-requires-3
+change-numbers-requires-3 c κs = known (c .before .before .before .before .before .before .before .before .before .before .before .before .before .before .before .before .before .before .before .before .before .before .before) .fits
+
+change-numbers-requires-4 : tie.Need-change-numbers-requires-4
+change-numbers-requires-4 c κs = known (c .before .before .before .before .before .before .before .before .before .before .before .before .before .before .before .before .before .before .before .before .before .before .before .before .before) .fits
+
+count-after-requires : tie.Need-count-after-requires
+count-after-requires c κs = known (c .before .before .before .before .before .before .before .before .before .before .before .before .before .before .before .before .before .before .before .before .before .before .before .before .before .before) .fits
+
+with-output-requires : tie.Need-with-output-requires
+with-output-requires c κs = search needs
+
+same-length : tie.Need-same-length
+same-length c = search needs
+
+returns-2 : tie.Need-returns-2
+returns-2 c =
+    let n4 = c .before .before in
+    let n3 = n4 .before .before in
+    let n2 = n3 .before .before in
+    let n1 = n2 .before .before in
+    let v = n1 .before .before in
+    let k = v .before .before .before in
+    let w = k .before .before .before .before .before in
+    let a = w .before .before .before .before .before in
+    let m = a .before .before .before in
+    let r = m .before .before in
+    let p = r .before .before in
+    let s = begin p in
+    tick-expired (state s) (s .args .tick) (now (s .args .out)) (sized p) (p .plan-tick .ensures) (r .i .given .0 .0) (r .i .given .1)
+    _ [] [] (m .next-number .result) (w .write-kvpub .result) (w .write-kvpub .last .0)
+    (record {
+      table = record {
+        of-keys = k .change-keys .ensures;
+        of-values = v .change-values .ensures;
+        of-key-lengths = n1 .change-numbers .ensures;
+        of-value-lengths = n2 .change-numbers2 .ensures;
+        of-count = c .before .count-after .ensures;
+      };
+      of-numbers = n3 .change-numbers3 .ensures;
+      of-expiries = n4 .change-numbers4 .ensures;
+    })
+    refl (m .next-number .ensures) (a .key-at .ensures) (w .write-kvpub .ensures) (c .with-output .ensures)
+
+enum-told : tie.Need-enum-told
+enum-told c = search needs
+
+write-hugz-requires : tie.Need-write-hugz-requires
+write-hugz-requires c κs = search needs
+
+with-output-requires-2 : tie.Need-with-output-requires-2
+with-output-requires-2 c κs = search needs
+
+same-length-2 : tie.Need-same-length-2
+same-length-2 c = search needs
+
+returns-3 : tie.Need-returns-3
+returns-3 c =
+    let w = c .before .before .before in
+    let t = w .before .before in
+    let p = t .before .before in
+    let s = begin p in
+    tick-beat (state s) (s .args .tick) (now (s .args .out)) (sized p) (p .plan-tick .ensures) (t .enum-told .given .1) (c .with-output2 .result) (w .write-hugz .result) (w .write-hugz .last .0) (w .write-hugz .ensures) (c .with-output2 .ensures)
+
+enum-told-2 : tie.Need-enum-told-2
+enum-told-2 c = search needs
+
+without-output-requires-2 : tie.Need-without-output-requires-2
+without-output-requires-2 c κs = search needs
+
+returns-4 : tie.Need-returns-4
+returns-4 c =
+    let t = c .before in
+    let p = t .before .before in
+    let s = begin p in
+    tick-quiet (state s) (s .args .tick) (now (s .args .out)) (sized p) (p .plan-tick .ensures) (t .enum-told2 .given .1) (c .without-output2 .result) (c .without-output2 .ensures)
+
+pub tick-lent-spec : {M : Type 1} → statement M
+tick-lent-spec =
+    tie.close
+    (tie.spec
+    plan-tick-requires
+    enum-known-r
+    without-output-requires
+    returns
+    enum-known-i
+    next-number-requires
+    key-at-requires
+    slice-aggregate-write-kvpub
+    slice-aggregate-write-kvpub-2
+    slice-aggregate-write-kvpub-3
+    write-kvpub-requires
+    change-keys-requires
+    change-values-requires
+    change-numbers-requires
+    change-numbers-requires-2
+    change-numbers-requires-3
+    change-numbers-requires-4
+    count-after-requires
+    with-output-requires
+    same-length
+    returns-2
+    enum-told
+    write-hugz-requires
+    with-output-requires-2
+    same-length-2
+    returns-3
+    enum-told-2
+    without-output-requires-2
+    returns-4)
