@@ -1,6 +1,5 @@
 pub mod Grammar
 pub mod Keys
-pub mod KeyScan
 pub mod Lengths
 pub mod Numbers
 pub mod Order

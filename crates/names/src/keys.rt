@@ -2,64 +2,34 @@
 use base::bytes;
 ghost use mathlib.Core.Path.{_≡_};
 ghost use Rattle.names.specs.Keys.{isKey, isSubtree, under};
-ghost use Rattle.names.specs.KeyScan.{keyNext, inName};
 
 pub const KEY_ROOM: usize = 96;
 
-// Where a scan of a key stands: at its start, behind a slash, in a name, or past a byte that no key has there.
-pub(crate) enum Place {
-    Start,
-    Slash,
-    Name,
-    Wrong,
-}
-
-fn key_next(at: Place, b: u8) -> Place
-    ensures { λ r. ⌜ r ≡ keyNext at b ⌝ }
-{
-    match at {
-        Place::Start => match b {
-            b'/' => Place::Slash,
-            _ => Place::Wrong,
-        },
-        Place::Slash => match b {
-            b'/' | 0 => Place::Wrong,
-            _ => Place::Name,
-        },
-        Place::Name => match b {
-            b'/' => Place::Slash,
-            0 => Place::Wrong,
-            _ => Place::Name,
-        },
-        Place::Wrong => Place::Wrong,
-    }
-}
-
-fn in_name(at: Place) -> bool
-    ensures { λ r. ⌜ r ≡ inName at ⌝ }
-{
-    match at {
-        Place::Start => false,
-        Place::Slash => false,
-        Place::Name => true,
-        Place::Wrong => false,
-    }
-}
-
-// Whether some bytes are a key.
+// Whether some bytes are a key: a slash first and none last, no two slashes side by side, and no zero byte. One straight pass.
 pub fn is_key(s: &[u8]) -> bool
     ensures { λ r. ⌜ r ≡ isKey (now (s .entry)) ⌝ }
 {
+    if s.len() < 1 {
+        return false;
+    }
     if KEY_ROOM < s.len() {
         return false;
     }
-    let mut at = Place::Start;
-    let mut i = 0;
+    if s[0] != b'/' {
+        return false;
+    }
+    if s[s.len() - 1] == b'/' {
+        return false;
+    }
+    let mut good = true;
+    let mut i = 1;
     while i < s.len() {
-        at = key_next(at, s[i]);
+        let before = s[i - 1];
+        let b = s[i];
+        good = good & (b != 0) & ((before != b'/') | (b != b'/'));
         i += 1;
     }
-    in_name(at)
+    good
 }
 
 // Whether some bytes are a subtree.
