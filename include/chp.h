@@ -190,3 +190,317 @@ typedef struct chp_client {
     uint64_t clock;  /* since when the server is silent */
 } chp_client;
 
+/* ---- What the archive exports ----
+ * Hosts call the functions further below, which hide these. A state's columns are lent one by one, so that nothing of a state is
+ * copied; of a call that changes them the new count and header come back in the result.
+ */
+
+typedef struct chp_server_header {
+    uint64_t number, last_tick, last_published;
+} chp_server_header;
+
+typedef struct chp_server_outcome {
+    size_t count;
+    chp_server_header header;
+    chp_answer answer;
+} chp_server_outcome;
+
+typedef struct chp_client_header {
+    uint64_t phase, number, clock;
+} chp_client_header;
+
+typedef struct chp_client_outcome {
+    size_t count;
+    chp_client_header header;
+    chp_answer answer;
+} chp_client_outcome;
+
+typedef struct chp_server_reply {
+    chp_server state;
+    chp_answer answer;
+} chp_server_reply;
+
+typedef struct chp_client_reply {
+    chp_client state;
+    chp_answer answer;
+} chp_client_reply;
+
+chp_server_outcome chp_lent_server_kvset(uint8_t *keys, uint8_t *values, uint64_t *key_lengths, uint64_t *value_lengths,
+    uint64_t *numbers, uint64_t *expiries, size_t count, chp_server_header header,
+    const uint8_t *msg, size_t msg_len, uint64_t tick, uint8_t *out, size_t out_len);
+chp_server_outcome chp_lent_server_tick(uint8_t *keys, uint8_t *values, uint64_t *key_lengths, uint64_t *value_lengths,
+    uint64_t *numbers, uint64_t *expiries, size_t count, chp_server_header header,
+    uint64_t tick, uint8_t *out, size_t out_len);
+chp_answer chp_lent_server_icanhaz(const uint8_t *keys, const uint8_t *values, const uint64_t *key_lengths, const uint64_t *value_lengths,
+    const uint64_t *numbers, const uint64_t *expiries, size_t count, chp_server_header header,
+    const uint8_t *msg, size_t msg_len, uint8_t *out, size_t out_len);
+
+chp_client_outcome chp_lent_client_snapshot(uint8_t *keys, uint8_t *values, uint64_t *key_lengths, uint64_t *value_lengths, size_t count,
+    const uint8_t *subtree, uint64_t subtree_length, chp_client_header header,
+    const uint8_t *msg, size_t msg_len);
+chp_client_outcome chp_lent_client_subscriber(uint8_t *keys, uint8_t *values, uint64_t *key_lengths, uint64_t *value_lengths, size_t count,
+    const uint8_t *subtree, uint64_t subtree_length, chp_client_header header,
+    const uint8_t *msg, size_t msg_len, uint64_t tick);
+chp_answer chp_lent_client_write_icanhaz(const uint8_t *keys, const uint8_t *values, const uint64_t *key_lengths, const uint64_t *value_lengths,
+    size_t count, const uint8_t *subtree, uint64_t subtree_length, chp_client_header header,
+    uint8_t *out, size_t out_len);
+chp_answer chp_lent_client_write_kvset(const uint8_t *keys, const uint8_t *values, const uint64_t *key_lengths, const uint64_t *value_lengths,
+    size_t count, const uint8_t *subtree, uint64_t subtree_length, chp_client_header header,
+    const uint8_t *key, size_t key_len, const uint8_t *uuid, size_t uuid_len,
+    const uint8_t *properties, size_t properties_len, const uint8_t *value, size_t value_len, uint8_t *out, size_t out_len);
+chp_answer chp_lent_client_ask(const uint8_t *keys, const uint8_t *values, const uint64_t *key_lengths, const uint64_t *value_lengths,
+    size_t count, const uint8_t *subtree, uint64_t subtree_length, chp_client_header header,
+    uint64_t tick);
+chp_answer chp_lent_client_lookup(const uint8_t *keys, const uint8_t *values, const uint64_t *key_lengths, const uint64_t *value_lengths,
+    size_t count, const uint8_t *subtree, uint64_t subtree_length, chp_client_header header,
+    const uint8_t *key, size_t key_len, uint8_t *out, size_t out_len);
+
+/* The same calls with the state by value, for hosts that would rather have a function from states to states. A call then takes up
+ * to 150 KB of stack. */
+chp_server_reply chp_by_value_server_start(uint64_t number, uint64_t tick);
+chp_server_reply chp_by_value_server_kvset(chp_server s, const uint8_t *msg, size_t msg_len, uint64_t tick, uint8_t *out, size_t out_len);
+chp_server_reply chp_by_value_server_tick(chp_server s, uint64_t tick, uint8_t *out, size_t out_len);
+chp_server_reply chp_by_value_server_icanhaz(chp_server s, const uint8_t *msg, size_t msg_len, uint8_t *out, size_t out_len);
+chp_client_reply chp_by_value_client_start(const uint8_t *subtree, size_t subtree_len, uint64_t tick);
+chp_client_reply chp_by_value_client_snapshot(chp_client c, const uint8_t *msg, size_t msg_len);
+chp_client_reply chp_by_value_client_subscriber(chp_client c, const uint8_t *msg, size_t msg_len, uint64_t tick);
+chp_answer chp_by_value_client_write_icanhaz(chp_client c, uint8_t *out, size_t out_len);
+chp_answer chp_by_value_client_write_kvset(chp_client c, const uint8_t *key, size_t key_len, const uint8_t *uuid, size_t uuid_len,
+    const uint8_t *properties, size_t properties_len, const uint8_t *value, size_t value_len, uint8_t *out, size_t out_len);
+chp_answer chp_by_value_client_ask(chp_client c, uint64_t tick);
+chp_answer chp_by_value_client_lookup(chp_client c, const uint8_t *key, size_t key_len, uint8_t *out, size_t out_len);
+
+/* A part of some bytes. */
+typedef struct chp_part {
+    uint64_t start;
+    uint64_t length;
+} chp_part;
+
+/* A frame in some bytes: where its body starts, counted from the first of the bytes, and how long it is; more is 1 if the frame
+ * promises another, and whole is 1 if there is such a frame at all. */
+typedef struct chp_frame {
+    uint64_t start;
+    uint64_t length;
+    uint64_t more;
+    uint64_t whole;
+} chp_frame;
+
+chp_part chp_bytes_value(const uint8_t *msg, size_t msg_len);
+uint64_t chp_bytes_value_refusal(const uint8_t *msg, size_t msg_len);
+chp_frame chp_bytes_frame_at(const uint8_t *msg, size_t msg_len, size_t at);
+size_t chp_bytes_message_length(const uint8_t *bytes, size_t len);
+size_t chp_bytes_put_frame(uint8_t *out, size_t out_len, size_t at, uint64_t more, const uint8_t *body, size_t body_len);
+
+/* Bytes of length 0 may come with a null pointer; the archive wants one that is not null. */
+static inline const uint8_t *chp_in(const uint8_t *p)
+{
+    static const uint8_t none = 0;
+    return p ? p : &none;
+}
+
+static inline uint8_t *chp_out(uint8_t *p)
+{
+    static uint8_t none;
+    return p ? p : &none;
+}
+
+static inline chp_server_header chp_header_of_server(const chp_server *s)
+{
+    chp_server_header h;
+    h.number = s->number;
+    h.last_tick = s->last_tick;
+    h.last_published = s->last_published;
+    return h;
+}
+
+static inline chp_answer chp_end_server(chp_server *s, chp_server_outcome r)
+{
+    s->table.count = r.count;
+    s->number = r.header.number;
+    s->last_tick = r.header.last_tick;
+    s->last_published = r.header.last_published;
+    return r.answer;
+}
+
+static inline chp_client_header chp_header_of_client(const chp_client *c)
+{
+    chp_client_header h;
+    h.phase = c->phase;
+    h.number = c->number;
+    h.clock = c->clock;
+    return h;
+}
+
+static inline chp_answer chp_end_client(chp_client *c, chp_client_outcome r)
+{
+    c->table.count = r.count;
+    c->phase = r.header.phase;
+    c->number = r.header.number;
+    c->clock = r.header.clock;
+    return r.answer;
+}
+
+/* ---- The server ---- */
+
+/* A server without rows at a number and a tick: started. Both clocks are at that tick.
+ * Refuses: 6 the number, 10 the tick. Refused, *s is a server without rows at number 0 and tick 0. */
+static inline chp_answer chp_server_start(chp_server *s, uint64_t number, uint64_t tick)
+{
+    chp_server_reply r = chp_by_value_server_start(number, tick);
+    *s = r.state;
+    return r.answer;
+}
+
+/* KVSET at a tick: msg has five frames, key, sequence, UUID, properties, value. The number rises by one. A value that is not empty is
+ * set, with an expiry if the properties have a ttl, and an empty one removes the key's row, if there is one. Writes the KVPUB, to be
+ * sent to every client, at most CHP_KVPUB_MOST bytes: wrote.
+ * Refuses: 16, 1, 2, 4, 6, 7, 8, 9, 10, 11, 12, 14. */
+static inline chp_answer chp_server_kvset(chp_server *s, const uint8_t *msg, size_t msg_len, uint64_t tick, uint8_t *out, size_t out_len)
+{
+    return chp_end_server(s, chp_lent_server_kvset(s->table.keys, s->table.values, s->table.key_lengths, s->table.value_lengths,
+        s->numbers, s->expiries, s->table.count, chp_header_of_server(s), chp_in(msg), msg_len, tick, chp_out(out), out_len));
+}
+
+/* Tells the time. If rows are due (their expiry is before the tick), the one that expired first goes, the number rises by one, and its
+ * KVPUB is written: wrote. Else, if nothing was published for 1000 ms, HUGZ is written: wrote. Else: nothing. To be called a few times a
+ * second; after wrote at once again, since one call removes one row.
+ * Refuses: 16, 10, 12, 14. */
+static inline chp_answer chp_server_tick(chp_server *s, uint64_t tick, uint8_t *out, size_t out_len)
+{
+    return chp_end_server(s, chp_lent_server_tick(s->table.keys, s->table.values, s->table.key_lengths, s->table.value_lengths,
+        s->numbers, s->expiries, s->table.count, chp_header_of_server(s), tick, chp_out(out), out_len));
+}
+
+/* ICANHAZ: msg has three frames, the client's identity, the word ICANHAZ? and a subtree. Writes the snapshot, a run of messages one
+ * behind another, each with the identity frame in front: a KVSYNC for each row under the subtree, then KTHXBAI; at most
+ * CHP_SNAPSHOT_MOST bytes: wrote. chp_message_length cuts them apart. The server does not change.
+ * Refuses: 16, 1, 2, 15, 3, 5, 14. */
+static inline chp_answer chp_server_icanhaz(const chp_server *s, const uint8_t *msg, size_t msg_len, uint8_t *out, size_t out_len)
+{
+    return chp_lent_server_icanhaz(s->table.keys, s->table.values, s->table.key_lengths, s->table.value_lengths,
+        s->numbers, s->expiries, s->table.count, chp_header_of_server(s), chp_in(msg), msg_len, chp_out(out), out_len);
+}
+
+/* ---- The client ---- */
+
+/* A client that waits for the snapshot of a subtree, from a tick on: started. The empty subtree is the whole map.
+ * Refuses: 5 the subtree, 10 the tick. Refused, *c has the empty subtree and tick 0. */
+static inline chp_answer chp_client_start(chp_client *c, const uint8_t *subtree, size_t subtree_len, uint64_t tick)
+{
+    chp_client_reply r = chp_by_value_client_start(chp_in(subtree), subtree_len, tick);
+    *c = r.state;
+    return r.answer;
+}
+
+/* A message from the server's router, without the identity frame: KTHXBAI of the client's subtree makes it live at that number: live.
+ * Anything else is a KVSYNC, whose row is set: synced. Only while the client waits.
+ * Refuses KTHXBAI: 16, 1, 2, 5, 6, 7, 8, 13. Refuses KVSYNC: 16, 1, 2, 4, 5, 6, 7, 8, 9, 13, 11. */
+static inline chp_answer chp_client_snapshot(chp_client *c, const uint8_t *msg, size_t msg_len)
+{
+    return chp_end_client(c, chp_lent_client_snapshot(c->table.keys, c->table.values, c->table.key_lengths, c->table.value_lengths,
+        c->table.count, c->subtree, c->subtree_length, chp_header_of_client(c), chp_in(msg), msg_len));
+}
+
+/* A message that the server published. HUGZ: heard, and the silence clock is at the tick, which only HUGZ uses. Anything else is a
+ * KVPUB: stale where its number is not above the client's, and nothing changes; else its number is taken, and its row is set or
+ * removed: applied; or its key is not under the subtree: outside. Only once the client is live. (While it waits, a host keeps what is
+ * published, and hands it in after KTHXBAI.)
+ * Refuses HUGZ: 16, 1, 2, 6, 7, 8, 9, 10, 13. Refuses KVPUB: 16, 1, 2, 4, 6, 7, 8, 9, 13, 11. */
+static inline chp_answer chp_client_subscriber(chp_client *c, const uint8_t *msg, size_t msg_len, uint64_t tick)
+{
+    return chp_end_client(c, chp_lent_client_subscriber(c->table.keys, c->table.values, c->table.key_lengths, c->table.value_lengths,
+        c->table.count, c->subtree, c->subtree_length, chp_header_of_client(c), chp_in(msg), msg_len, tick));
+}
+
+/* Writes ICANHAZ, the request for the snapshot: the word and the client's subtree, at most CHP_ICANHAZ_MOST bytes: wrote. The router
+ * socket puts the identity in front of it. The client does not change.
+ * Refuses: 16, 13 where it is live, 14. */
+static inline chp_answer chp_client_write_icanhaz(const chp_client *c, uint8_t *out, size_t out_len)
+{
+    return chp_lent_client_write_icanhaz(c->table.keys, c->table.values, c->table.key_lengths, c->table.value_lengths,
+        c->table.count, c->subtree, c->subtree_length, chp_header_of_client(c), chp_out(out), out_len);
+}
+
+/* Writes KVSET, the request for an update of any key, at most CHP_KVPUB_MOST bytes: wrote. An empty value asks for a removal. The
+ * client does not change: the update comes back to it in a KVPUB.
+ * Refuses: 16, 4, 7, 8, 9, 14. */
+static inline chp_answer chp_client_write_kvset(const chp_client *c, const uint8_t *key, size_t key_len, const uint8_t *uuid, size_t uuid_len,
+    const uint8_t *properties, size_t properties_len, const uint8_t *value, size_t value_len, uint8_t *out, size_t out_len)
+{
+    return chp_lent_client_write_kvset(c->table.keys, c->table.values, c->table.key_lengths, c->table.value_lengths,
+        c->table.count, c->subtree, c->subtree_length, chp_header_of_client(c), chp_in(key), key_len, chp_in(uuid), uuid_len,
+        chp_in(properties), properties_len, chp_in(value), value_len, chp_out(out), out_len);
+}
+
+/* Whether the server has been silent for more than 5000 ms at a tick: gone, or else present. The client does not change.
+ * Refuses: 16, 10. */
+static inline chp_answer chp_client_ask(const chp_client *c, uint64_t tick)
+{
+    return chp_lent_client_ask(c->table.keys, c->table.values, c->table.key_lengths, c->table.value_lengths,
+        c->table.count, c->subtree, c->subtree_length, chp_header_of_client(c), tick);
+}
+
+/* Copies the value of a key to the output, at most CHP_VALUE_MOST bytes: found. Where the client has no such key: absent, and nothing is
+ * written. Only once the client is live. The client does not change.
+ * Refuses: 16, 4, 13, 14. */
+static inline chp_answer chp_client_lookup(const chp_client *c, const uint8_t *key, size_t key_len, uint8_t *out, size_t out_len)
+{
+    return chp_lent_client_lookup(c->table.keys, c->table.values, c->table.key_lengths, c->table.value_lengths,
+        c->table.count, c->subtree, c->subtree_length, chp_header_of_client(c), chp_in(key), key_len, chp_out(out), out_len);
+}
+
+/* ---- Messages as bytes ---- */
+
+/* The value frame of a message of five frames, whatever they hold: where it starts in msg and how long it is. Where the message is
+ * refused (see chp_value_refusal) its length is 0. */
+static inline chp_part chp_value(const uint8_t *msg, size_t msg_len)
+{
+    return chp_bytes_value(chp_in(msg), msg_len);
+}
+
+/* 0 where msg has five frames, and else the refusal: 1 or 2. */
+static inline uint64_t chp_value_refusal(const uint8_t *msg, size_t msg_len)
+{
+    return chp_bytes_value_refusal(chp_in(msg), msg_len);
+}
+
+/* The frame of msg that begins at a place: at 0 the first one. The next begins at start + length. All numbers are 0 where no whole
+ * frame begins there. So a message becomes the parts that a socket sends:
+ *
+ *   for (size_t at = 0; at < len;) {
+ *       chp_frame f = chp_frame_at(msg, len, at);
+ *       zmq_send(socket, msg + f.start, f.length, f.more ? ZMQ_SNDMORE : 0);
+ *       at = f.start + f.length;
+ *   }
+ */
+static inline chp_frame chp_frame_at(const uint8_t *msg, size_t msg_len, size_t at)
+{
+    return chp_bytes_frame_at(chp_in(msg), msg_len, at);
+}
+
+/* The length of the whole message that some bytes begin with, up to its last frame; 0 where they begin with none. */
+static inline size_t chp_message_length(const uint8_t *bytes, size_t len)
+{
+    return chp_bytes_message_length(chp_in(bytes), len);
+}
+
+/* Writes a frame to the output from a place on and gives the place behind it; more says whether another frame is to follow. Where the
+ * frame does not fit, nothing is written and the place itself comes back. So the parts that a socket received become a message:
+ *
+ *   size_t at = 0;
+ *   do {
+ *       n = zmq_recv(socket, part, sizeof part, 0);
+ *       zmq_getsockopt(socket, ZMQ_RCVMORE, &more, &more_size);
+ *       at = chp_put_frame(msg, sizeof msg, at, more, part, n);
+ *   } while (more);
+ */
+static inline size_t chp_put_frame(uint8_t *out, size_t out_len, size_t at, int more, const uint8_t *body, size_t body_len)
+{
+    return chp_bytes_put_frame(chp_out(out), out_len, at, more ? 1 : 0, chp_in(body), body_len);
+}
+
+#ifdef __cplusplus
+}
+#endif
+
+#endif

@@ -6,6 +6,7 @@ use plain::PlainAnswer;
 use server_state::Header;
 use server_state::Server;
 
+pub mod bytes;
 pub mod client_by_value;
 pub mod plain;
 pub mod server_by_value;
