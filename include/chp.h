@@ -291,6 +291,10 @@ chp_frame chp_bytes_frame_at(const uint8_t *msg, size_t msg_len, size_t at);
 size_t chp_bytes_message_length(const uint8_t *bytes, size_t len);
 size_t chp_bytes_put_frame(uint8_t *out, size_t out_len, size_t at, uint64_t more, const uint8_t *body, size_t body_len);
 
+/* States in which each field holds a mark, 1, 2, 3 and so on in the order of the fields. */
+chp_server_reply chp_layout_server(void);
+chp_client_reply chp_layout_client(void);
+
 /* Bytes of length 0 may come with a null pointer; the archive wants one that is not null. */
 static inline const uint8_t *chp_in(const uint8_t *p)
 {
@@ -497,6 +501,37 @@ static inline size_t chp_message_length(const uint8_t *bytes, size_t len)
 static inline size_t chp_put_frame(uint8_t *out, size_t out_len, size_t at, int more, const uint8_t *body, size_t body_len)
 {
     return chp_bytes_put_frame(chp_out(out), out_len, at, more ? 1 : 0, chp_in(body), body_len);
+}
+
+/* ---- A test of this header ----
+ * Whether the states of this header have the layout of those in the archive: 1, or 0 if a compiler or an option lays them out in
+ * another way. Both states are marked by the archive, and every element is looked at where this header has it. */
+static inline int chp_marked_table(const chp_table *t)
+{
+    size_t i;
+    int good = t->count == 5;
+    for (i = 0; i < sizeof t->keys; i++) good &= t->keys[i] == 1;
+    for (i = 0; i < sizeof t->values; i++) good &= t->values[i] == 2;
+    for (i = 0; i < CHP_ROWS; i++) good &= t->key_lengths[i] == 3 && t->value_lengths[i] == 4;
+    return good;
+}
+
+static inline int chp_marked_answer(const chp_answer *a)
+{
+    return a->kind == 11 && a->refusal == 12 && a->number == 13 && a->written == 14;
+}
+
+static inline int chp_layout_agrees(void)
+{
+    size_t i;
+    chp_server_reply s = chp_layout_server();
+    chp_client_reply c = chp_layout_client();
+    int good = chp_marked_table(&s.state.table) && chp_marked_answer(&s.answer) && chp_marked_table(&c.state.table) && chp_marked_answer(&c.answer);
+    for (i = 0; i < CHP_ROWS; i++) good &= s.state.numbers[i] == 6 && s.state.expiries[i] == 7;
+    for (i = 0; i < CHP_KEY_MOST; i++) good &= c.state.subtree[i] == 6;
+    good &= s.state.number == 8 && s.state.last_tick == 9 && s.state.last_published == 10;
+    good &= c.state.subtree_length == 7 && c.state.phase == 8 && c.state.number == 9 && c.state.clock == 10;
+    return good;
 }
 
 #ifdef __cplusplus

@@ -14,7 +14,6 @@ use Rattle.base.specs.Bytes.{Bytes}
 use Rattle.base.specs.Checks.Check.{when}
 use Rattle.base.specs.Checks.{firstOf}
 use Rattle.chp.specs.Parts.{IsValue}
-use Rattle.chp.specs.declared.bytes.Part.{Part}
 use Rattle.frames.proofs.FrameGrammar.{ended}
 use Rattle.frames.proofs.MessageLaws.{frames-step, none-some, prepended}
 use Rattle.frames.specs.Messages.{through, framesIn}

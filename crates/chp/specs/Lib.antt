@@ -1,3 +1,4 @@
 pub mod Exports
+pub mod Layout
 pub mod Parts
 pub mod Plain

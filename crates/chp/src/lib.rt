@@ -8,6 +8,7 @@ use server_state::Server;
 
 pub mod bytes;
 pub mod client_by_value;
+pub mod layout;
 pub mod plain;
 pub mod server_by_value;
 pub mod server_lent;

@@ -1,59 +1,40 @@
+-- `joining_code::session::follow` meets its contract: what each call promises is one step of the run. Assumes nothing.
 use borrow.Author.Needs.{needs}
 use Rattle.joining_code.proofs.CodeProof.{client-steps}
 use Rattle.joining_code.specs.Runs.ClientRan.{began, called}
 use Rattle.joining_code.proofs.session.follow.Statement.{statement}
 use Rattle.joining_code.proofs.session.follow.Tie as tie
-use Rattle.joining_code.proofs.session.follow.Reads as reads
-use Rattle.joining_code.proofs.session.follow.Lts as lts
-use Rattle.client.proofs.snapshot.snapshot.Reads as snapshot-reads
-use Rattle.client.proofs.start.start.Reads as start-reads
-use Rattle.client.proofs.subscriber.subscriber.Reads as subscriber-reads
-use Rattle.client_queries.proofs.ask.ask.Reads as ask-reads
-use Rattle.client_queries.proofs.lookup.lookup.Reads as lookup-reads
-use Rattle.client_queries.proofs.write.write_icanhaz.Reads as write-icanhaz-reads
-use Rattle.client_queries.proofs.write.write_kvset.Reads as write-kvset-reads
 
--- src/session.rt:52:9
 start-requires : tie.Need-start-requires
 start-requires c κs = search needs
 
--- src/session.rt:53:5
 write-icanhaz-requires : tie.Need-write-icanhaz-requires
 write-icanhaz-requires c κs = search needs
 
--- src/session.rt:54:9
 snapshot-requires : tie.Need-snapshot-requires
 snapshot-requires c κs = search needs
 
--- src/session.rt:55:9
 subscriber-requires : tie.Need-subscriber-requires
 subscriber-requires c κs = search needs
 
--- src/session.rt:56:5
 write-kvset-requires : tie.Need-write-kvset-requires
 write-kvset-requires c κs = search needs
 
--- src/session.rt:57:5
 ask-requires : tie.Need-ask-requires
 ask-requires c κs = search needs
 
--- src/session.rt:58:5
 lookup-requires : tie.Need-lookup-requires
 lookup-requires c κs = search needs
 
--- src/session.rt:38:1
 same-length : tie.Need-same-length
 same-length c = search needs
 
--- src/session.rt:38:1
 same-length-2 : tie.Need-same-length-2
 same-length-2 c = search needs
 
--- src/session.rt:38:1
 same-length-3 : tie.Need-same-length-3
 same-length-3 c = search needs
 
--- src/session.rt:38:1
 returns : tie.Need-returns
 returns c =
     let begun = began _ _ _ (c .before .before .before .before .before .before .before .before .before .before .before .before .before .before .before .before .start .ensures) in

@@ -1,8 +1,8 @@
 -- `names::keys::is_key` meets its contract: the flag tells of the bytes passed, and of all at the end. Assumes nothing.
-use Prim.Native.Nat.{ℕ, _+_, _-_, _≤_}
+use Prim.Native.Nat.{_-_, _≤_}
 use native.Mathlib.Omega.{arith}
 use mathlib.Core.Bool.{_&&_}
-use mathlib.Core.Path.{_≡_, refl, sym, ap, _∙_}
+use mathlib.Core.Path.{_≡_, refl, sym, _∙_}
 use lib.ListN.{length, getD, drop}
 use borrow.Author.Needs.{needs}
 use denote.Ref.{now}
