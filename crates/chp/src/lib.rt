@@ -8,6 +8,7 @@ use server_state::Server;
 
 pub mod bytes;
 pub mod client_by_value;
+pub mod client_lent;
 pub mod layout;
 pub mod plain;
 pub mod server_by_value;
@@ -32,5 +33,13 @@ pub struct ClientReply {
 pub struct ServerOutcome {
     pub count: usize,
     pub header: Header,
+    pub answer: PlainAnswer,
+}
+
+// The same of a client.
+#[repr(C)]
+pub struct ClientOutcome {
+    pub count: usize,
+    pub header: client_state::Header,
     pub answer: PlainAnswer,
 }

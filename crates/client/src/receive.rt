@@ -2,35 +2,52 @@
 use crate::Reply;
 use answers::answer;
 use answers::answer::Kind;
+use client_plan::Outcome;
 use client_plan::plan::Plan;
 use client_plan::receive::Entry;
 use client_state::Client;
+use client_state::Header;
 use client_state::subtree;
 use frames::read;
 use messages::HEAD;
 use messages::VALUE;
 use names::numbers::Tick;
+use table::Table;
 use table::change;
 use table::row;
 ghost use mathlib.Core.List.{[]};
 ghost use Rattle.client_plan.specs.Entries.{received};
+ghost use Rattle.client_plan.specs.Lent.{lent};
 ghost use Rattle.client_plan.specs.Promises.{Answered};
 
-// A message of five frames at an entry. The tick is the subscriber entry's alone.
-pub(crate) fn receive(mut c: Client, entry: Entry, msg: &[u8], tick: Tick) -> Reply
-    ensures { λ r. ⌜ Answered c (received entry (now (msg .entry)) (tick .0)) [] (r .state) (r .answer) [] ⌝ }
+// A message of five frames at an entry of a client whose columns are lent. The tick is the subscriber entry's alone.
+pub(crate) fn receive_lent<'a>(
+    keys: &mut [u8; 6400],
+    values: &mut [u8; 16384],
+    key_lengths: &mut [u64; 64],
+    value_lengths: &mut [u64; 64],
+    count: usize,
+    subtree: &'a [u8; 96],
+    subtree_length: u64,
+    header: Header,
+    entry: Entry,
+    msg: &'a [u8],
+    tick: Tick,
+) -> Outcome
+    ensures { λ r. ⌜ Answered (lent (now (keys .entry)) (now (values .entry)) (now («key_lengths» .entry)) (now («value_lengths» .entry)) count (now (subtree .entry)) «subtree_length» header) (received entry (now (msg .entry)) (tick .0)) [] (lent (now (keys .exit)) (now (values .exit)) (now («key_lengths» .exit)) (now («value_lengths» .exit)) (r .count) (now (subtree .entry)) «subtree_length» (r .header)) (r .answer) [] ⌝ }
 {
-    let count = c.table.count;
-    let header = c.header;
+    // As slices the columns tell how many they hold.
+    let value_bytes: &[u8] = values;
+    let key_column: &[u64] = key_lengths;
+    let value_column: &[u64] = value_lengths;
     let number = header.number;
-    let length = c.subtree_length;
     match client_plan::receive::plan_received(
-        &c.table.keys,
-        &c.table.key_lengths,
-        &c.table.value_lengths,
+        keys,
+        key_lengths,
+        value_lengths,
         count,
-        subtree::subtree_in(&c.subtree, length),
-        length,
+        subtree::subtree_in(subtree, subtree_length),
+        subtree_length,
         header,
         entry,
         msg,
@@ -38,28 +55,73 @@ pub(crate) fn receive(mut c: Client, entry: Entry, msg: &[u8], tick: Tick) -> Re
     ) {
         Plan::Refuse(r) => {
             let answer = answer::without_output(Kind::Refused(r, number));
-            return Reply { state: c, answer };
+            return Outcome {
+                count,
+                header,
+                answer,
+            };
         }
         Plan::Note(after, kind) => {
-            c.header = after;
             let answer = answer::without_output(kind);
-            return Reply { state: c, answer };
+            return Outcome {
+                count,
+                header: after,
+                answer,
+            };
         }
         Plan::Store(change, after, kind) => {
             let fresh = row::fresh_row(read::body(msg, HEAD), read::body(msg, VALUE));
-            change::change_keys(&mut c.table.keys, change, count, &fresh.key);
-            change::change_values(&mut c.table.values, change, count, &fresh.value);
-            change::change_numbers(&mut c.table.key_lengths, change, count, fresh.key_length);
-            change::change_numbers(
-                &mut c.table.value_lengths,
-                change,
-                count,
-                fresh.value_length,
-            );
-            c.table.count = change::count_after(change, count);
-            c.header = after;
-            let answer = answer::without_output(kind);
-            Reply { state: c, answer }
+            change::change_keys(keys, change, count, &fresh.key);
+            change::change_values(values, change, count, &fresh.value);
+            change::change_numbers(key_lengths, change, count, fresh.key_length);
+            change::change_numbers(value_lengths, change, count, fresh.value_length);
+            Outcome {
+                count: change::count_after(change, count),
+                header: after,
+                answer: answer::without_output(kind),
+            }
         }
+    }
+}
+
+// A message at an entry of a client by value.
+pub(crate) fn receive(c: Client, entry: Entry, msg: &[u8], tick: Tick) -> Reply
+    ensures { λ r. ⌜ Answered c (received entry (now (msg .entry)) (tick .0)) [] (r .state) (r .answer) [] ⌝ }
+{
+    let mut keys = c.table.keys;
+    let mut values = c.table.values;
+    let mut key_lengths = c.table.key_lengths;
+    let mut value_lengths = c.table.value_lengths;
+    let subtree = c.subtree;
+    let subtree_length = c.subtree_length;
+    let r = receive_lent(
+        &mut keys,
+        &mut values,
+        &mut key_lengths,
+        &mut value_lengths,
+        c.table.count,
+        &subtree,
+        subtree_length,
+        c.header,
+        entry,
+        msg,
+        tick,
+    );
+    let header = r.header;
+    let answer = r.answer;
+    Reply {
+        state: Client {
+            table: Table {
+                keys,
+                values,
+                key_lengths,
+                value_lengths,
+                count: r.count,
+            },
+            subtree,
+            subtree_length,
+            header,
+        },
+        answer,
     }
 }

@@ -1,14 +1,46 @@
 // The snapshot entry: KTHXBAI, or else KVSYNC.
 use crate::Reply;
 use crate::receive;
+use client_plan::Outcome;
 use client_plan::receive::Entry;
 use client_state::Client;
+use client_state::Header;
 use names::numbers::Tick;
 ghost use mathlib.Core.List.{[]};
 ghost use Rattle.client_plan.specs.Calls.{snapshot as handed};
+ghost use Rattle.client_plan.specs.Lent.{lent};
 ghost use Rattle.client_plan.specs.Promises.{Answered};
 
-// The snapshot entry: a message of five frames, the identity in front of it taken off.
+// The snapshot entry on a state whose columns are lent: a message of five frames, the identity in front of it taken off.
+pub fn snapshot_lent<'a>(
+    keys: &mut [u8; 6400],
+    values: &mut [u8; 16384],
+    key_lengths: &mut [u64; 64],
+    value_lengths: &mut [u64; 64],
+    count: usize,
+    subtree: &'a [u8; 96],
+    subtree_length: u64,
+    header: Header,
+    msg: &'a [u8],
+) -> Outcome
+    ensures { λ r. ⌜ Answered (lent (now (keys .entry)) (now (values .entry)) (now («key_lengths» .entry)) (now («value_lengths» .entry)) count (now (subtree .entry)) «subtree_length» header) (handed (now (msg .entry))) [] (lent (now (keys .exit)) (now (values .exit)) (now («key_lengths» .exit)) (now («value_lengths» .exit)) (r .count) (now (subtree .entry)) «subtree_length» (r .header)) (r .answer) [] ⌝ }
+{
+    receive::receive_lent(
+        keys,
+        values,
+        key_lengths,
+        value_lengths,
+        count,
+        subtree,
+        subtree_length,
+        header,
+        Entry::Snapshot,
+        msg,
+        Tick(0),
+    )
+}
+
+// The snapshot entry on a state by value.
 pub fn snapshot(c: Client, msg: &[u8]) -> Reply
     ensures { λ r. ⌜ Answered c (handed (now (msg .entry))) [] (r .state) (r .answer) [] ⌝ }
 {

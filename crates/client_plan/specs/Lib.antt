@@ -2,6 +2,7 @@ pub mod Answers
 pub mod Calls
 pub mod Effects
 pub mod Entries
+pub mod Lent
 pub mod Next
 pub mod Output
 pub mod Plans

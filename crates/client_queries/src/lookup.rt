@@ -7,6 +7,7 @@ use answers::refusal::Refusal;
 use answers::refusal::Verdict;
 use base::output;
 use client_state::Client;
+use client_state::Header;
 use client_state::WAITING;
 use client_state::subtree;
 use client_state::test;
@@ -23,6 +24,7 @@ ghost use Rattle.answers.specs.declared.refusal.Refusal.the-variants.{BadKey, P
 ghost use Rattle.base.specs.Checks.Check.{when};
 ghost use Rattle.base.specs.Checks.{firstOf};
 ghost use Rattle.client_plan.specs.Calls.{lookup as wanted};
+ghost use Rattle.client_plan.specs.Lent.{lent};
 ghost use Rattle.client_plan.specs.Promises.{Answered};
 ghost use Rattle.client_state.specs.Views.{isWaiting};
 ghost use Rattle.names.specs.Keys.{isKey};
@@ -61,36 +63,42 @@ fn search_rows<'a>(
     }
 }
 
-// The value of a key. Where there is none, a key outside the subtree included, no output is needed.
-pub fn lookup(c: Client, key: &[u8], out: &mut [u8]) -> Answer
-    ensures { λ a. ⌜ Answered c (wanted (now (key .entry)) (length (now (out .entry)))) (now (out .entry)) c a (now (out .exit)) ⌝ }
+// The value of a key at a client whose columns are lent. Where there is none, a key outside the subtree included, no output is needed.
+pub fn lookup_lent<'a>(
+    keys: &'a [u8; 6400],
+    values: &'a [u8; 16384],
+    key_lengths: &'a [u64; 64],
+    value_lengths: &'a [u64; 64],
+    count: usize,
+    subtree: &'a [u8; 96],
+    subtree_length: u64,
+    header: Header,
+    key: &'a [u8],
+    out: &mut [u8],
+) -> Answer
+    ensures { λ a. ⌜ Answered (lent (now (keys .entry)) (now (values .entry)) (now («key_lengths» .entry)) (now («value_lengths» .entry)) count (now (subtree .entry)) «subtree_length» header) (wanted (now (key .entry)) (length (now (out .entry)))) (now (out .entry)) (lent (now (keys .entry)) (now (values .entry)) (now («key_lengths» .entry)) (now («value_lengths» .entry)) count (now (subtree .entry)) «subtree_length» header) a (now (out .exit)) ⌝ }
 {
-    let header = c.header;
+    // As slices the columns tell how many they hold.
+    let value_bytes: &[u8] = values;
+    let key_column: &[u64] = key_lengths;
+    let value_column: &[u64] = value_lengths;
     let number = header.number;
     let phase = header.phase;
-    let count = c.table.count;
-    let length = c.subtree_length;
     match test::check_state(
-        &c.table.keys,
-        &c.table.key_lengths,
-        &c.table.value_lengths,
+        keys,
+        key_lengths,
+        value_lengths,
         count,
-        subtree::subtree_in(&c.subtree, length),
-        length,
+        subtree::subtree_in(subtree, subtree_length),
+        subtree_length,
         header,
     ) {
         Verdict::Refuse(r) => answer::without_output(Kind::Refused(r, number)),
-        Verdict::Accept => match search_rows(
-            &c.table.keys,
-            &c.table.key_lengths,
-            count,
-            phase,
-            key,
-        ) {
+        Verdict::Accept => match search_rows(keys, key_lengths, count, phase, key) {
             Search::Refuse(r) => answer::without_output(Kind::Refused(r, number)),
             Search::Absent => answer::without_output(Kind::Absent(number)),
             Search::Row(i) => {
-                let value = text::value_at(&c.table.values, &c.table.value_lengths, i);
+                let value = text::value_at(values, value_lengths, i);
                 written::told(
                     Kind::Found(number),
                     number,
@@ -99,4 +107,22 @@ pub fn lookup(c: Client, key: &[u8], out: &mut [u8]) -> Answer
             }
         },
     }
+}
+
+// The value of a key at a client by value.
+pub fn lookup(c: Client, key: &[u8], out: &mut [u8]) -> Answer
+    ensures { λ a. ⌜ Answered c (wanted (now (key .entry)) (length (now (out .entry)))) (now (out .entry)) c a (now (out .exit)) ⌝ }
+{
+    lookup_lent(
+        &c.table.keys,
+        &c.table.values,
+        &c.table.key_lengths,
+        &c.table.value_lengths,
+        c.table.count,
+        &c.subtree,
+        c.subtree_length,
+        c.header,
+        key,
+        out,
+    )
 }

@@ -1,4 +1,4 @@
--- `client::receive::receive` meets its contract: what was planned is noted in the header and stored in every column. Assumes nothing.
+-- `client::receive::receive_lent` meets its contract: what was planned is noted in the header and stored in every column. Assumes nothing.
 use native.Mathlib.Omega.{arith}
 use mathlib.Core.List.{List, _++_}
 use mathlib.Core.Option.{none}
@@ -8,57 +8,81 @@ use denote.Ref.{now}
 use Rattle.answers.specs.declared.refusal.Refusal.{Refusal}
 use Rattle.base.specs.Checks.{Check, firstOf}
 use Rattle.client_state.specs.IllFormed.{illFormsOf}
+use Rattle.client_state.specs.declared.Client.{Client}
 use Rattle.client_plan.proofs.AnswerLaws.{refused-call}
 use Rattle.client.proofs.EffectLaws.{RowKnown}
 use Rattle.client.proofs.EntryLaws.{entryTable, effectAt, entry-refusal, Message, entry-message, message-row, key-fits, value-fits, entry-planned, plan-refused, plan-noted, plan-stored, message-noted, message-stored}
+use Rattle.client_plan.specs.Calls.{Call}
 use Rattle.client_plan.specs.Effects.{Effect}
 use Rattle.client_plan.specs.Entries.{received}
+use Rattle.client_plan.specs.Lent.{lent}
 use Rattle.client_plan.specs.Plans.{planOf, planBy}
 use Rattle.client_plan.specs.declared.plan.Plan.the-variants.{Store}
 use Rattle.client_plan.specs.declared.plan.Plan.{Plan}
 use Rattle.messages.specs.Fields.{frameAt}
 use Rattle.table.specs.Columns.{tableKeys, SizedTable}
 use borrow.Author.Needs.{needs}
-use Rattle.client.proofs.receive.receive.Statement.{statement}
-use Rattle.client.proofs.receive.receive.Tie as tie
+use Rattle.client.proofs.receive.receive_lent.Statement.{statement}
+use Rattle.client.proofs.receive.receive_lent.Tie as tie
 
--- how long the columns are
-sized : (s : tie.Start) → SizedTable (s .args .t1 .table)
-sized s = record { values = search needs; key-lengths = search needs; value-lengths = search needs }
+-- the state whose columns are lent
+abbrev state : tie.Start → Client
+state s =
+    let a = s .args in
+    lent (now (a .keys)) (now (a .values)) (now (a .key-lengths)) (now (a .value-lengths)) (a .count) (now (a .subtree)) (a .subtree-length) (a .header)
 
 -- where the function begins, and what its call is and does
 abbrev begin : tie.After-plan-received → tie.Start
-begin c = c .before .before .before .before .before .before .before .before .before .before
+begin p = p .before .before .before .before .before .before .before .before .before .before .before .before .before
+
+abbrev call : tie.Start → Call
+call s = received (s .args .entry) (now (s .args .msg)) (s .args .tick .0)
 
 abbrev checks : tie.Start → List (Check Refusal)
-checks s = illFormsOf (s .args .t1) ++ entryTable (s .args .t1) (s .args .entry) (now (s .args .msg)) (s .args .tick .0)
+checks s = illFormsOf (state s) ++ entryTable (state s) (s .args .entry) (now (s .args .msg)) (s .args .tick .0)
 
 abbrev effect : tie.Start → Effect
-effect s = effectAt (s .args .t1) (s .args .entry) (now (s .args .msg)) (s .args .tick .0)
+effect s = effectAt (state s) (s .args .entry) (now (s .args .msg)) (s .args .tick .0)
 
 abbrev planFor : tie.Start → Plan
-planFor s = planBy (s .args .t1 .header) (tableKeys (s .args .t1 .table)) (effect s)
+planFor s = planBy (s .args .header) (tableKeys (state s .table)) (effect s)
+
+-- how long the columns are
+values-sized : (c : tie.After-plan-received) → length (now (c .before .before .before .before .before .before .before .before .before .before .before .before .before .args .values)) ≡ 16384
+values-sized c = search needs
+
+key-lengths-sized : (c : tie.After-plan-received) → length (now (c .before .before .before .before .before .before .before .before .before .before .before .before .before .args .key-lengths)) ≡ 64
+key-lengths-sized c = search needs
+
+value-lengths-sized : (c : tie.After-plan-received) → length (now (c .before .before .before .before .before .before .before .before .before .before .before .before .before .args .value-lengths)) ≡ 64
+value-lengths-sized c = search needs
+
+sized : (c : tie.After-plan-received) → SizedTable (state (begin c) .table)
+sized c = record { values = values-sized c; key-lengths = key-lengths-sized c; value-lengths = value-lengths-sized c }
 
 -- ---- the plan
 planned : (c : tie.After-plan-received) → c .plan-received .result ≡ planOf (firstOf (checks (begin c))) (planFor (begin c))
 planned c =
     let s = begin c in
-    entry-planned (s .args .t1) _ (now (s .args .msg)) (s .args .tick .0) (s .args .entry) (c .before .subtree-in .ensures) (c .plan-received .ensures)
+    entry-planned (state s) _ (now (s .args .msg)) (s .args .tick .0) (s .args .entry) (c .before .subtree-in .ensures) (c .plan-received .ensures)
 
-message : (s : tie.Start) → firstOf (checks s) ≡ none → Message (s .args .t1) (received (s .args .entry) (now (s .args .msg)) (s .args .tick .0)) (now (s .args .msg)) (effect s)
-message s e = entry-message (s .args .t1) (sized s) (now (s .args .msg)) (s .args .tick .0) (s .args .entry) e
+message : (c : tie.After-plan-received) → firstOf (checks (begin c)) ≡ none → Message (state (begin c)) (call (begin c)) (now (begin c .args .msg)) (effect (begin c))
+message c e =
+    let s = begin c in
+    entry-message (state s) (sized c) (now (s .args .msg)) (s .args .tick .0) (s .args .entry) e
 
 -- a message that stores a row
 stores : (c : tie.After-change) → (firstOf (checks (begin (c .before .before))) ≡ none) × (planFor (begin (c .before .before)) ≡ Store (c .change .given .0 .0) (c .change .given .0 .1 .0) (c .change .given .0 .1 .1 .0))
 stores c =
     let p = c .before .before in
     let s = begin p in
-    plan-stored (firstOf (checks s)) (s .args .t1 .header) (tableKeys (s .args .t1 .table)) (effect s) (planned p) (c .change .given .1)
+    plan-stored (firstOf (checks s)) (s .args .header) (tableKeys (state s .table)) (effect s) (planned p) (c .change .given .1)
 
-row : (c : tie.After-change) → RowKnown (begin (c .before .before) .args .t1) (c .change .given .0 .0) (frameAt 0 (now (begin (c .before .before) .args .msg))) (frameAt 4 (now (begin (c .before .before) .args .msg)))
+row : (c : tie.After-change) → RowKnown (state (begin (c .before .before))) (c .change .given .0 .0) (frameAt 0 (now (begin (c .before .before) .args .msg))) (frameAt 4 (now (begin (c .before .before) .args .msg)))
 row c =
-    let s = begin (c .before .before) in
-    message-row (s .args .t1) (received (s .args .entry) (now (s .args .msg)) (s .args .tick .0)) (now (s .args .msg)) (effect s) (message s (stores c .0)) (sized s) _ _ _ (stores c .1)
+    let p = c .before .before in
+    let s = begin p in
+    message-row (state s) (call s) (now (s .args .msg)) (effect s) (message p (stores c .0)) (sized p) _ _ _ (stores c .1)
 
 subtree-in-requires : tie.Need-subtree-in-requires
 subtree-in-requires c κs = search needs
@@ -74,9 +98,9 @@ without-output-requires c κs = search needs
 
 returns : tie.Need-returns
 returns c =
-    let s = c .before .before .before .before .before .before .before .before .before .before .before .before .before .before in
     let p = c .before .before .before .before in
-    refused-call (s .args .t1) (received (s .args .entry) (now (s .args .msg)) (s .args .tick .0)) _ _ (sym (entry-refusal (s .args .t1) (sized s) (now (s .args .msg)) (s .args .tick .0) (s .args .entry)) ∙ plan-refused (firstOf (checks s)) (s .args .t1 .header) (tableKeys (s .args .t1 .table)) (effect s) (planned p) (c .before .before .r .given .1)) refl (c .without-output .ensures)
+    let s = begin p in
+    refused-call (state s) (call s) _ _ (sym (entry-refusal (state s) (sized p) (now (s .args .msg)) (s .args .tick .0) (s .args .entry)) ∙ plan-refused (firstOf (checks s)) (s .args .header) (tableKeys (state s .table)) (effect s) (planned p) (c .before .before .r .given .1)) refl (c .without-output .ensures)
 
 enum-known-after : tie.Need-enum-known-after
 enum-known-after c = search needs
@@ -86,10 +110,10 @@ without-output-requires-2 c κs = search needs
 
 returns-2 : tie.Need-returns-2
 returns-2 c =
-    let s = c .before .before .before .before .before .before .before .before .before .before .before .before .before .before in
     let p = c .before .before .before .before in
-    let n = plan-noted (firstOf (checks s)) (s .args .t1 .header) (tableKeys (s .args .t1 .table)) (effect s) (planned p) (c .before .before .after .given .1) in
-    message-noted (s .args .t1) (received (s .args .entry) (now (s .args .msg)) (s .args .tick .0)) (now (s .args .msg)) (effect s) (message s (n .0)) _ _ _ (c .without-output2 .ensures) (n .1) refl
+    let s = begin p in
+    let n = plan-noted (firstOf (checks s)) (s .args .header) (tableKeys (state s .table)) (effect s) (planned p) (c .before .before .after .given .1) in
+    message-noted (state s) (call s) (now (s .args .msg)) (effect s) (message p (n .0)) _ _ _ (c .without-output2 .ensures) (n .1) refl
 
 enum-known-change : tie.Need-enum-known-change
 enum-known-change c = search needs
@@ -103,9 +127,10 @@ body-requires-2 c κs = search needs
 fresh-row-requires : tie.Need-fresh-row-requires
 fresh-row-requires c κs =
     let g = c .before .before .before in
-    let s = begin (g .before .before) in
-    let m = message s (stores g .0) in
-    (key-fits (s .args .t1) (received (s .args .entry) (now (s .args .msg)) (s .args .tick .0)) (now (s .args .msg)) (effect s) m (sized s) _ _ _ (stores g .1) (c .before .body .ensures), value-fits (s .args .t1) (received (s .args .entry) (now (s .args .msg)) (s .args .tick .0)) (now (s .args .msg)) (effect s) m (sized s) _ _ _ (stores g .1) (c .body2 .ensures))
+    let p = g .before .before in
+    let s = begin p in
+    let m = message p (stores g .0) in
+    (key-fits (state s) (call s) (now (s .args .msg)) (effect s) m (sized p) _ _ _ (stores g .1) (c .before .body .ensures), value-fits (state s) (call s) (now (s .args .msg)) (effect s) m (sized p) _ _ _ (stores g .1) (c .body2 .ensures))
 
 change-keys-requires : tie.Need-change-keys-requires
 change-keys-requires c κs = row (c .before .before .before .before .before .before .before) .fits
@@ -127,30 +152,31 @@ without-output-requires-3 c κs = search needs
 
 returns-3 : tie.Need-returns-3
 returns-3 c =
-    let lengths2 = c .before .before .before in
+    let lengths2 = c .before .before in
     let lengths = lengths2 .before .before in
     let values = lengths .before .before in
     let keys = values .before .before .before .before in
     let fresh = keys .before .before .before .before in
     let g = fresh .before .before .before .before in
-    let s = begin (g .before .before) in
-    let m = message s (stores g .0) in
+    let p = g .before .before in
+    let s = begin p in
+    let m = message p (stores g .0) in
     let key-is = fresh .before .before .body .ensures ∙ m .frames 0 (omega arith) in
     let value-is = fresh .before .body2 .ensures ∙ m .frames 4 (omega arith) in
-    message-stored (s .args .t1) (received (s .args .entry) (now (s .args .msg)) (s .args .tick .0)) (now (s .args .msg)) (effect s) m _ _ _ (c .without-output3 .ensures) (sized s) _ (stores g .1)
+    message-stored (state s) (call s) (now (s .args .msg)) (effect s) m _ _ _ (c .without-output3 .ensures) (sized p) _ (stores g .1)
     (record {
       of-keys = keys .change-keys .ensures;
       of-values = values .change-values .ensures;
       of-key-lengths = lengths .change-numbers .ensures;
       of-value-lengths = lengths2 .change-numbers2 .ensures;
-      of-count = c .before .before .count-after .ensures;
+      of-count = c .before .count-after .ensures;
     })
     refl refl refl
     (fresh .fresh-row .ensures .key ∙ key-is) (fresh .fresh-row .ensures .key-length ∙ ap length key-is)
     (fresh .fresh-row .ensures .value ∙ value-is) (fresh .fresh-row .ensures .value-length ∙ ap length value-is)
 
-pub receive-spec : {M : Type 1} → statement M
-receive-spec =
+pub receive-lent-spec : {M : Type 1} → statement M
+receive-lent-spec =
     tie.close
     (tie.spec
     subtree-in-requires
