@@ -2,13 +2,14 @@
 use Prim.Native.Nat.{ℕ, _+_, _≤_, _<_}
 use native.Mathlib.Numerals.{add-one}
 use native.Mathlib.Omega.{arith}
-use mathlib.Core.Bool.{Bool, true, false, cond}
+use mathlib.Core.Bool.{Bool, true, false, cond, _&&_}
 use mathlib.Core.List.{[], _∷_, _++_}
 use mathlib.Core.Path.{_≡_, refl, sym, ap, ap₂, _∙_}
-use lib.Dec.{ltb}
+use lib.Dec.{ltb, eqb}
 use lib.ListN.{length, getD, drop, drop-of-length-le}
 use lib.Seq.{drop-cons}
-use borrow.Author.Tests.{ltb-true, ltb-false, lt-ltb, le-ltb}
+use borrow.Author.Tests.{eqb-true, ltb-true, ltb-false, lt-ltb, le-ltb}
+use Rattle.base.proofs.ByteLaws.{and-left, and-right}
 use Rattle.base.specs.Bytes.{Bytes}
 use Rattle.names.specs.Order.{orderOf}
 use Rattle.names.specs.declared.order.Order.the-variants.{Less, Equal, Greater}
@@ -46,6 +47,14 @@ module _ (a b : Bytes) (i : ℕ) where
   pub both-end : length a ≤ i → length b ≤ i → orderOf (drop i a) (drop i b) ≡ Equal
   unfolding orderOf
   both-end ha hb = rw (drop-of-length-le b hb, drop-of-length-le a ha)
+
+-- what a pass over eight bytes keeps: as long as all were alike, the order is that of what is left
+pub alike-turn : (a b : Bytes) (i j : ℕ) (alike : Bool) → i + j < length a → i + j < length b
+    → (alike ≡ true → orderOf (drop i a) (drop i b) ≡ orderOf (drop (i + j) a) (drop (i + j) b))
+    → (alike && eqb (getD a (i + j) 0) (getD b (i + j) 0)) ≡ true → orderOf (drop i a) (drop i b) ≡ orderOf (drop (i + (j + 1)) a) (drop (i + (j + 1)) b)
+alike-turn a b i j alike ha hb h t =
+    let e : i + j + 1 ≡ i + (j + 1) = omega arith in
+    h (and-left alike _ t) ∙ equal-byte a b (i + j) ha hb (eqb-true _ _ (and-right alike _ t)) ∙ ap (λ (k : ℕ). orderOf (drop k a) (drop k b)) e
 
 -- ---- a strict total order
 -- how two numbers stand to each other

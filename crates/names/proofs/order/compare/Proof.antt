@@ -1,7 +1,7 @@
 -- `names::order::compare` meets its contract: the bytes passed are alike, so the order is that of what is left. Assumes nothing.
 use Prim.Native.Nat.{_-_, _≤_, _<_}
 use native.Mathlib.Omega.{arith}
-use mathlib.Core.Path.{_≡_, refl, sym, _∙_}
+use mathlib.Core.Path.{_≡_, sym, _∙_}
 use lib.ListN.{length, getD, drop}
 use borrow.Author.Needs.{needs}
 use denote.Ref.{now}
@@ -16,8 +16,11 @@ Inv-loop a b i₀ i = (i ≤ length a) × (i ≤ length b) × (orderOf a b ≡ o
 abbrev μ-loop : tie.MeasureT-loop
 μ-loop a b i₀ i = length a - i
 
+skip-alike-requires : tie.Need-skip-alike-requires Inv-loop μ-loop
+skip-alike-requires c κs = search needs
+
 loop-holds : tie.Need-loop-holds Inv-loop μ-loop
-loop-holds c = (omega arith, omega arith, refl)
+loop-holds c = let e = c .skip-alike .ensures in (e .0, e .1 .0, e .1 .1)
 
 returns : tie.Need-returns Inv-loop μ-loop
 returns c =
@@ -44,8 +47,8 @@ returns-2 c =
 returns-3 : tie.Need-returns-3 Inv-loop μ-loop
 returns-3 c =
     let l = c .before .before .before .before .before .before .before .before .loop in
-    let a = now (c .before .before .before .before .before .before .before .before .before .args .a) in
-    let b = now (c .before .before .before .before .before .before .before .before .before .args .b) in
+    let a = now (c .before .before .before .before .before .before .before .before .before .before .before .before .args .a) in
+    let b = now (c .before .before .before .before .before .before .before .before .before .before .before .before .args .b) in
     let less : getD b (l .i) 0 < getD a (l .i) 0 = omega (arith, c .before .before .before .if2 .taken) in
     sym (l .inv .2 ∙ greater-byte a b (l .i) (c .before .before .before .before .before .before .before .loop-test .taken) (omega arith) less)
 
@@ -76,6 +79,7 @@ compare-spec =
     (tie.spec
     Inv-loop
     μ-loop
+    skip-alike-requires
     loop-holds
     returns
     shared-slice-read-if2
