@@ -35,6 +35,9 @@
  *
  * STATES are plain data, some 25 KB each. They may be copied, stored and sent; nothing in them points anywhere. A state that comes
  * from elsewhere may be ill-formed: each call but the starts tests that first, and refuses it with CHP_ILL_FORMED.
+ *
+ * STACK. A call takes less than 4 KB. The two starts and chp_layout_agrees make a whole state on the stack and take up to 80 KB; so do
+ * not call them from a thread with less. The calls by value take up to 150 KB.
  */
 #ifndef CHP_H
 #define CHP_H
@@ -255,8 +258,7 @@ chp_answer chp_lent_client_lookup(const uint8_t *keys, const uint8_t *values, co
     size_t count, const uint8_t *subtree, uint64_t subtree_length, chp_client_header header,
     const uint8_t *key, size_t key_len, uint8_t *out, size_t out_len);
 
-/* The same calls with the state by value, for hosts that would rather have a function from states to states. A call then takes up
- * to 150 KB of stack. */
+/* The same calls with the state by value, for hosts that would rather have a function from states to states. */
 chp_server_reply chp_by_value_server_start(uint64_t number, uint64_t tick);
 chp_server_reply chp_by_value_server_kvset(chp_server s, const uint8_t *msg, size_t msg_len, uint64_t tick, uint8_t *out, size_t out_len);
 chp_server_reply chp_by_value_server_tick(chp_server s, uint64_t tick, uint8_t *out, size_t out_len);

@@ -24,8 +24,8 @@ use Rattle.names.specs.Numbers.{maxTick}
 use Rattle.rows.specs.Rows.{Rows, setRow, removeRow}
 use Rattle.table.proofs.ChangeLaws.{every-changed}
 use Rattle.table.proofs.FindLaws.{over-is, change-fits, changed-removes, changed-sets}
-use Rattle.table.proofs.TableLaws.{Altered, as-long, keys-long, keys-after, rows-after, update-good}
-use Rattle.table.specs.Changes.{changed, Fits}
+use Rattle.table.proofs.TableLaws.{as-long, keys-long, keys-after, rows-after, update-good}
+use Rattle.table.specs.Changes.{changed, Fits, Altered}
 use Rattle.table.specs.Columns.{rowsOf, tableKeys, tableValues, SizedTable}
 use Rattle.table.specs.Find.{placeOf, isFound, changeTo}
 use Rattle.table.specs.declared.change.Change.{Change}

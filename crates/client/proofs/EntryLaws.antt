@@ -48,7 +48,8 @@ use Rattle.names.specs.Words.{wordKthxbai, wordHugz}
 use Rattle.ports.proofs.PortLaws.{port-frame}
 use Rattle.ports.specs.Ports.{framed, snapshotChecks, snapshotPort, publishedChecks, subscriberPort, tickChecks}
 use Rattle.table.proofs.FindLaws.{held-found}
-use Rattle.table.proofs.TableLaws.{Altered, as-long, rows-long}
+use Rattle.table.proofs.TableLaws.{as-long, rows-long}
+use Rattle.table.specs.Changes.{Altered}
 use Rattle.table.specs.Columns.{rowsOf, tableKeys, tableValues, SizedTable}
 use Rattle.table.specs.Find.{placeOf, isFound}
 use Rattle.table.specs.declared.change.Change.{Change}

@@ -71,12 +71,17 @@ pub(crate) fn receive_lent<'a>(
         }
         Plan::Store(change, after, kind) => {
             let fresh = row::fresh_row(read::body(msg, HEAD), read::body(msg, VALUE));
-            change::change_keys(keys, change, count, &fresh.key);
-            change::change_values(values, change, count, &fresh.value);
-            change::change_numbers(key_lengths, change, count, fresh.key_length);
-            change::change_numbers(value_lengths, change, count, fresh.value_length);
+            let left = change::change_row(
+                keys,
+                values,
+                key_lengths,
+                value_lengths,
+                change,
+                count,
+                fresh,
+            );
             Outcome {
-                count: change::count_after(change, count),
+                count: left,
                 header: after,
                 answer: answer::without_output(kind),
             }

@@ -97,15 +97,20 @@ pub fn kvset_lent(
             let value = read::body(msg, VALUE);
             let fresh = row::fresh_row(key, value);
             let number = number::next_number(last);
-            change::change_keys(keys, change, count, &fresh.key);
-            change::change_values(values, change, count, &fresh.value);
-            change::change_numbers(key_lengths, change, count, fresh.key_length);
-            change::change_numbers(value_lengths, change, count, fresh.value_length);
+            let left = change::change_row(
+                keys,
+                values,
+                key_lengths,
+                value_lengths,
+                change,
+                count,
+                fresh,
+            );
             change::change_numbers(numbers, change, count, number.0);
             change::change_numbers(expiries, change, count, expiry_at(tick, properties));
             let written = write::write_kvpub(out, 0, number, key, uuid, properties, value);
             Outcome {
-                count: change::count_after(change, count),
+                count: left,
                 header: Header {
                     number,
                     last_tick: tick,

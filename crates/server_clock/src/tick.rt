@@ -12,6 +12,7 @@ use server_state::Server;
 use table::Table;
 use table::change;
 use table::change::Change;
+use table::row;
 use table::text;
 ghost use lib.ListN.{length};
 ghost use Rattle.server_plan.specs.Calls.{tick as told};
@@ -64,18 +65,21 @@ pub fn tick_lent(
             let key = text::key_at(keys, key_lengths, i);
             let written = write::write_kvpub(out, 0, number, key, b"", b"", b"");
             let gone = Change::Remove(i);
-            let no_key = [0; 96];
-            let no_value = [0; 256];
-            change::change_keys(keys, gone, count, &no_key);
-            change::change_values(values, gone, count, &no_value);
-            change::change_numbers(key_lengths, gone, count, 0);
-            change::change_numbers(value_lengths, gone, count, 0);
+            let none = row::fresh_row(b"", b"");
+            let left = change::change_row(
+                keys,
+                values,
+                key_lengths,
+                value_lengths,
+                gone,
+                count,
+                none,
+            );
             change::change_numbers(numbers, gone, count, 0);
             change::change_numbers(expiries, gone, count, 0);
             header.number = number;
             header.last_tick = tick;
             header.last_published = tick;
-            let left = change::count_after(gone, count);
             let answer = answer::with_output(Kind::Wrote(number), written);
             return Outcome {
                 count: left,

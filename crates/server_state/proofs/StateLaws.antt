@@ -14,9 +14,9 @@ use Rattle.server_state.specs.IllFormed.{isExpiry}
 use Rattle.server_state.specs.Views.{entry, stamp, entriesOf, keysOf, heldOf, SizedServer}
 use Rattle.server_state.specs.declared.Server.{Server}
 use Rattle.table.proofs.ChangeLaws.{stores, zip-changed, length-zip, every-changed, every-weaker, fits-most}
-use Rattle.table.proofs.TableLaws.{GoodTable, Altered, keys-after, values-after, keys-long as table-keys-long, values-long}
+use Rattle.table.proofs.TableLaws.{GoodTable, keys-after, values-after, keys-long as table-keys-long, values-long}
 use Rattle.table.proofs.TextLaws.{length-texts, at-most}
-use Rattle.table.specs.Changes.{changed, countAfter, Fits}
+use Rattle.table.specs.Changes.{changed, countAfter, Fits, Altered}
 use Rattle.table.specs.Columns.{texts, rowsOf, row, tableValues, within}
 use Rattle.table.specs.declared.change.Change.{Change}
 

@@ -21,7 +21,7 @@ use Rattle.rows.specs.Rows.{rising}
 use Rattle.table.proofs.ChangeLaws.{stores, zip-changed, length-zip, texts-changed, every-changed, every-weaker, fits-most}
 use Rattle.table.proofs.FindLaws.{rising-changed, stores-some}
 use Rattle.table.proofs.TextLaws.{length-texts, text-at, every-in, at-most}
-use Rattle.table.specs.Changes.{changed, countAfter, Fits}
+use Rattle.table.specs.Changes.{changed, countAfter, Fits, Altered}
 use Rattle.table.specs.Columns.{texts, rowsOf, row, tableKeys, tableValues, within, lengthsFit, SizedTable}
 use Rattle.table.specs.Faults.{rowFaults}
 use Rattle.table.specs.Find.{placeOf, changeTo}
@@ -100,14 +100,6 @@ value-some {t} z g i h =
     rw (text-at 256 (t .count) (t .«value_lengths») (t .values) i h) (simp (length-take, length-drop) (omega (arith, g .count, z .values)))
 
 -- ---- a change of one row
--- each column of t′ is that of t, changed: k and v are the lengths that the changed row's key and value have in their cells
-pub record Altered (change : Change) (k v : ℕ) (keyCell valueCell : Bytes) (t t′ : Table) : Type 0 where
-  pub of-keys : cells 96 (countAfter change (t .count)) (t′ .keys) ≡ changed change keyCell (cells 96 (t .count) (t .keys))
-  pub of-values : cells 256 (countAfter change (t .count)) (t′ .values) ≡ changed change valueCell (cells 256 (t .count) (t .values))
-  pub of-key-lengths : take (countAfter change (t .count)) (t′ .«key_lengths») ≡ changed change k (take (t .count) (t .«key_lengths»))
-  pub of-value-lengths : take (countAfter change (t .count)) (t′ .«value_lengths») ≡ changed change v (take (t .count) (t .«value_lengths»))
-  pub of-count : t′ .count ≡ countAfter change (t .count)
-
 module _ {change : Change} {k v : ℕ} {keyCell valueCell : Bytes} {t t′ : Table} (f : Fits change (t .count)) (z : SizedTable t)
     (c : Altered change k v keyCell valueCell t t′) where
   few : t .count ≤ 64

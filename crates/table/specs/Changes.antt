@@ -2,9 +2,12 @@
 use Prim.Native.Nat.{ℕ, _+_, _-_, _≤_, _<_}
 use mathlib.Core.Bool.{Bool, false}
 use mathlib.Core.List.{List}
+use mathlib.Core.Path.{_≡_}
 use lib.Dec.{leb}
-use lib.ListN.{set}
-use Rattle.cells.specs.Cells.{insertAt, removeAt}
+use lib.ListN.{set, take}
+use Rattle.base.specs.Bytes.{Bytes}
+use Rattle.cells.specs.Cells.{cells, insertAt, removeAt}
+use Rattle.table.specs.declared.Table.{Table}
 use Rattle.table.specs.declared.change.Change.the-variants.{Leave, Remove, Replace, Insert}
 use Rattle.table.specs.declared.change.Change.{Change}
 
@@ -34,3 +37,16 @@ isOver Leave n = false
 isOver (Remove i) n = false
 isOver (Replace i) n = false
 isOver (Insert i) n = leb 64 n
+
+-- each column of t′ is that of t, changed: k and v are the lengths that the changed row's key and value have in their cells
+pub record Altered (change : Change) (k v : ℕ) (keyCell valueCell : Bytes) (t t′ : Table) : Type 0 where
+  pub of-keys : cells 96 (countAfter change (t .count)) (t′ .keys) ≡ changed change keyCell (cells 96 (t .count) (t .keys))
+  pub of-values : cells 256 (countAfter change (t .count)) (t′ .values) ≡ changed change valueCell (cells 256 (t .count) (t .values))
+  pub of-key-lengths : take (countAfter change (t .count)) (t′ .«key_lengths») ≡ changed change k (take (t .count) (t .«key_lengths»))
+  pub of-value-lengths : take (countAfter change (t .count)) (t′ .«value_lengths») ≡ changed change v (take (t .count) (t .«value_lengths»))
+  pub of-count : t′ .count ≡ countAfter change (t .count)
+
+-- the table that columns make up, with the count of its rows
+abbrev pub tableOf : (keys values : Bytes) (keyLengths valueLengths : List ℕ) → ℕ → Table
+tableOf keys values keyLengths valueLengths count =
+    record { keys = keys; values = values; «key_lengths» = keyLengths; «value_lengths» = valueLengths; count = count }

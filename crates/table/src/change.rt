@@ -1,12 +1,13 @@
 // A change of one row, made in each column by itself.
 use crate::MAX_ROWS;
+use crate::row::Row;
 use cells::cell;
 use cells::number;
 ghost use mathlib.Core.Path.{_≡_};
 ghost use Prim.Native.Nat.{_+_, _*_, _≤_};
 ghost use lib.ListN.{length, take};
 ghost use Rattle.cells.specs.Cells.{cells};
-ghost use Rattle.table.specs.Changes.{changed, countAfter, Fits, isOver};
+ghost use Rattle.table.specs.Changes.{changed, countAfter, Fits, isOver, Altered, tableOf};
 
 // What happens to the rows: nothing, or one of them is taken out, set anew, or put in at its place.
 pub enum Change {
@@ -93,4 +94,24 @@ pub fn change_numbers(all: &mut [u64; 64], change: Change, count: usize, x: u64)
             number::insert_number(all, i, count, x);
         }
     }
+}
+
+// A change of one row in the columns that the rows of both ends have, and how many rows there are after it. The changed row is given whole.
+pub fn change_row(
+    keys: &mut [u8; 6400],
+    values: &mut [u8; 16384],
+    key_lengths: &mut [u64; 64],
+    value_lengths: &mut [u64; 64],
+    change: Change,
+    count: usize,
+    row: Row,
+) -> usize
+    requires { ⌜ Fits change count ⌝ }
+    ensures { λ r. ⌜ Altered change (row .«key_length») (row .«value_length») (row .key) (row .value) (tableOf (now (keys .entry)) (now (values .entry)) (now («key_lengths» .entry)) (now («value_lengths» .entry)) count) (tableOf (now (keys .exit)) (now (values .exit)) (now («key_lengths» .exit)) (now («value_lengths» .exit)) r) ⌝ }
+{
+    change_keys(keys, change, count, &row.key);
+    change_values(values, change, count, &row.value);
+    change_numbers(key_lengths, change, count, row.key_length);
+    change_numbers(value_lengths, change, count, row.value_length);
+    count_after(change, count)
 }

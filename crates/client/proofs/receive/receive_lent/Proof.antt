@@ -132,31 +132,16 @@ fresh-row-requires c κs =
     let m = message p (stores g .0) in
     (key-fits (state s) (call s) (now (s .args .msg)) (effect s) m (sized p) _ _ _ (stores g .1) (c .before .body .ensures), value-fits (state s) (call s) (now (s .args .msg)) (effect s) m (sized p) _ _ _ (stores g .1) (c .body2 .ensures))
 
-change-keys-requires : tie.Need-change-keys-requires
-change-keys-requires c κs = row (c .before .before .before .before .before .before .before) .fits
-
-change-values-requires : tie.Need-change-values-requires
-change-values-requires c κs = row (c .before .before .before .before .before .before .before .before .before .before .before) .fits
-
-change-numbers-requires : tie.Need-change-numbers-requires
-change-numbers-requires c κs = row (c .before .before .before .before .before .before .before .before .before .before .before .before .before) .fits
-
-change-numbers-requires-2 : tie.Need-change-numbers-requires-2
-change-numbers-requires-2 c κs = row (c .before .before .before .before .before .before .before .before .before .before .before .before .before .before .before) .fits
-
-count-after-requires : tie.Need-count-after-requires
-count-after-requires c κs = row (c .before .before .before .before .before .before .before .before .before .before .before .before .before .before .before .before) .fits
+change-row-requires : tie.Need-change-row-requires
+change-row-requires c κs = row (c .before .before .before .before .before .before .before .before) .fits
 
 without-output-requires-3 : tie.Need-without-output-requires-3
 without-output-requires-3 c κs = search needs
 
 returns-3 : tie.Need-returns-3
 returns-3 c =
-    let lengths2 = c .before .before in
-    let lengths = lengths2 .before .before in
-    let values = lengths .before .before in
-    let keys = values .before .before .before .before in
-    let fresh = keys .before .before .before .before in
+    let changed = c .before in
+    let fresh = changed .before .before .before .before .before in
     let g = fresh .before .before .before .before in
     let p = g .before .before in
     let s = begin p in
@@ -164,13 +149,7 @@ returns-3 c =
     let key-is = fresh .before .before .body .ensures ∙ m .frames 0 (omega arith) in
     let value-is = fresh .before .body2 .ensures ∙ m .frames 4 (omega arith) in
     message-stored (state s) (call s) (now (s .args .msg)) (effect s) m _ _ _ (c .without-output3 .ensures) (sized p) _ (stores g .1)
-    (record {
-      of-keys = keys .change-keys .ensures;
-      of-values = values .change-values .ensures;
-      of-key-lengths = lengths .change-numbers .ensures;
-      of-value-lengths = lengths2 .change-numbers2 .ensures;
-      of-count = c .before .count-after .ensures;
-    })
+    (changed .change-row .ensures)
     refl refl refl
     (fresh .fresh-row .ensures .key ∙ key-is) (fresh .fresh-row .ensures .key-length ∙ ap length key-is)
     (fresh .fresh-row .ensures .value ∙ value-is) (fresh .fresh-row .ensures .value-length ∙ ap length value-is)
@@ -191,10 +170,6 @@ receive-lent-spec =
     body-requires
     body-requires-2
     fresh-row-requires
-    change-keys-requires
-    change-values-requires
-    change-numbers-requires
-    change-numbers-requires-2
-    count-after-requires
+    change-row-requires
     without-output-requires-3
     returns-3)

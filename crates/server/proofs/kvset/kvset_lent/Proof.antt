@@ -135,36 +135,24 @@ next-number-requires c κs =
     let s = begin q in
     number-left (state s) (sized q) (now (s .args .msg)) (s .args .tick .0) (length (now (s .args .out))) (passed g)
 
-change-keys-requires : tie.Need-change-keys-requires
-change-keys-requires c κs = fit (c .before .before .before .before .before .before .before .before .before .before)
-
-change-values-requires : tie.Need-change-values-requires
-change-values-requires c κs = fit (c .before .before .before .before .before .before .before .before .before .before .before .before .before .before)
+change-row-requires : tie.Need-change-row-requires
+change-row-requires c κs = fit (c .before .before .before .before .before .before .before .before .before .before .before)
 
 change-numbers-requires : tie.Need-change-numbers-requires
-change-numbers-requires c κs = fit (c .before .before .before .before .before .before .before .before .before .before .before .before .before .before .before .before)
-
-change-numbers-requires-2 : tie.Need-change-numbers-requires-2
-change-numbers-requires-2 c κs = fit (c .before .before .before .before .before .before .before .before .before .before .before .before .before .before .before .before .before .before)
-
-change-numbers-requires-3 : tie.Need-change-numbers-requires-3
-change-numbers-requires-3 c κs = fit (c .before .before .before .before .before .before .before .before .before .before .before .before .before .before .before .before .before .before .before .before)
+change-numbers-requires c κs = fit (c .before .before .before .before .before .before .before .before .before .before .before .before .before)
 
 expiry-at-requires : tie.Need-expiry-at-requires
 expiry-at-requires c κs =
-    let g = c .before .before .before .before .before .before .before .before .before .before .before .before .before .before .before .before .before .before .before .before .before .before in
+    let g = c .before .before .before .before .before .before .before .before .before .before .before .before .before .before .before in
     let q = g .before .before in
     let s = begin q in
     in-time (state s) (sized q) (now (s .args .msg)) (s .args .tick .0) (length (now (s .args .out))) (passed g)
 
-change-numbers-requires-4 : tie.Need-change-numbers-requires-4
-change-numbers-requires-4 c κs = fit (c .before .before .before .before .before .before .before .before .before .before .before .before .before .before .before .before .before .before .before .before .before .before .before)
+change-numbers-requires-2 : tie.Need-change-numbers-requires-2
+change-numbers-requires-2 c κs = fit (c .before .before .before .before .before .before .before .before .before .before .before .before .before .before .before .before)
 
 write-kvpub-requires : tie.Need-write-kvpub-requires
 write-kvpub-requires c κs = search needs
-
-count-after-requires : tie.Need-count-after-requires
-count-after-requires c κs = fit (c .before .before .before .before .before .before .before .before .before .before .before .before .before .before .before .before .before .before .before .before .before .before .before .before .before .before .before .before)
 
 with-output-requires : tie.Need-with-output-requires
 with-output-requires c κs = search needs
@@ -174,14 +162,11 @@ same-length c = search needs
 
 returns-2 : tie.Need-returns-2
 returns-2 c =
-    let written = c .before .before .before .before in
-    let expiries = c .before .before .before .before .before .before in
+    let written = c .before .before .before in
+    let expiries = c .before .before .before .before .before in
     let numbers = expiries .before .before .before in
-    let lengths2 = numbers .before .before in
-    let lengths = lengths2 .before .before in
-    let values = lengths .before .before in
-    let keys = values .before .before .before .before in
-    let next = keys .before .before .before .before in
+    let row = numbers .before .before in
+    let next = row .before .before .before .before .before in
     let fresh = next .before in
     let value = fresh .before in
     let g = value .before .before .before .before .before in
@@ -198,15 +183,9 @@ returns-2 c =
     let made = g .change .given .0 .0 in
     kvset-done (state s) (sized q) (now (a .msg)) (a .tick .0) (length (now (a .out))) (passed g) made (planned g) _
     (record {
-      table = record {
-        of-keys = keys .change-keys .ensures;
-        of-values = values .change-values .ensures;
-        of-key-lengths = lengths .change-numbers .ensures;
-        of-value-lengths = lengths2 .change-numbers2 .ensures;
-        of-count = c .before .count-after .ensures;
-      };
-      of-numbers = numbers .change-numbers3 .ensures ∙ ap (λ (q : Sequence). changed made (q .0) (take (a .count) (now (a .numbers)))) (number .ensures);
-      of-expiries = expiries .change-numbers4 .ensures;
+      table = row .change-row .ensures;
+      of-numbers = numbers .change-numbers .ensures ∙ ap (λ (q : Sequence). changed made (q .0) (take (a .count) (now (a .numbers)))) (number .ensures);
+      of-expiries = expiries .change-numbers2 .ensures;
     })
     (ap (λ (q : Sequence). record { number = q; «last_tick» = a .tick; «last_published» = a .tick }) (number .ensures))
     (fresh .fresh-row .ensures .key ∙ key-is) (fresh .fresh-row .ensures .key-length ∙ ap length key-is)
@@ -230,15 +209,11 @@ kvset-lent-spec =
     body-requires-4
     fresh-row-requires
     next-number-requires
-    change-keys-requires
-    change-values-requires
+    change-row-requires
     change-numbers-requires
-    change-numbers-requires-2
-    change-numbers-requires-3
     expiry-at-requires
-    change-numbers-requires-4
+    change-numbers-requires-2
     write-kvpub-requires
-    count-after-requires
     with-output-requires
     same-length
     returns-2)

@@ -86,26 +86,23 @@ slice-aggregate-write-kvpub-3 c = search needs
 write-kvpub-requires : tie.Need-write-kvpub-requires
 write-kvpub-requires c κs = search needs
 
-change-keys-requires : tie.Need-change-keys-requires
-change-keys-requires c κs = known (c .before .before .before .before .before .before .before .before .before .before .before .before .before .before) .fits
+slice-aggregate-fresh-row : tie.Need-slice-aggregate-fresh-row
+slice-aggregate-fresh-row c = search needs
 
-change-values-requires : tie.Need-change-values-requires
-change-values-requires c κs = known (c .before .before .before .before .before .before .before .before .before .before .before .before .before .before .before .before .before) .fits
+slice-aggregate-fresh-row-2 : tie.Need-slice-aggregate-fresh-row-2
+slice-aggregate-fresh-row-2 c = search needs
+
+fresh-row-requires : tie.Need-fresh-row-requires
+fresh-row-requires c κs = search needs
+
+change-row-requires : tie.Need-change-row-requires
+change-row-requires c κs = known (c .before .before .before .before .before .before .before .before .before .before .before .before .before .before .before .before .before .before .before) .fits
 
 change-numbers-requires : tie.Need-change-numbers-requires
-change-numbers-requires c κs = known (c .before .before .before .before .before .before .before .before .before .before .before .before .before .before .before .before .before .before .before) .fits
+change-numbers-requires c κs = known (c .before .before .before .before .before .before .before .before .before .before .before .before .before .before .before .before .before .before .before .before .before) .fits
 
 change-numbers-requires-2 : tie.Need-change-numbers-requires-2
-change-numbers-requires-2 c κs = known (c .before .before .before .before .before .before .before .before .before .before .before .before .before .before .before .before .before .before .before .before .before) .fits
-
-change-numbers-requires-3 : tie.Need-change-numbers-requires-3
-change-numbers-requires-3 c κs = known (c .before .before .before .before .before .before .before .before .before .before .before .before .before .before .before .before .before .before .before .before .before .before .before) .fits
-
-change-numbers-requires-4 : tie.Need-change-numbers-requires-4
-change-numbers-requires-4 c κs = known (c .before .before .before .before .before .before .before .before .before .before .before .before .before .before .before .before .before .before .before .before .before .before .before .before .before) .fits
-
-count-after-requires : tie.Need-count-after-requires
-count-after-requires c κs = known (c .before .before .before .before .before .before .before .before .before .before .before .before .before .before .before .before .before .before .before .before .before .before .before .before .before .before) .fits
+change-numbers-requires-2 c κs = known (c .before .before .before .before .before .before .before .before .before .before .before .before .before .before .before .before .before .before .before .before .before .before .before) .fits
 
 with-output-requires : tie.Need-with-output-requires
 with-output-requires c κs = search needs
@@ -115,13 +112,11 @@ same-length c = search needs
 
 returns-2 : tie.Need-returns-2
 returns-2 c =
-    let n4 = c .before .before in
-    let n3 = n4 .before .before in
-    let n2 = n3 .before .before in
+    let n2 = c .before in
     let n1 = n2 .before .before in
-    let v = n1 .before .before in
-    let k = v .before .before .before in
-    let w = k .before .before .before .before .before in
+    let k = n1 .before .before in
+    let e = k .change-row .ensures in
+    let w = k .before .before .before .before .before .before .before .before .before .before in
     let a = w .before .before .before .before .before in
     let m = a .before .before .before in
     let r = m .before .before in
@@ -129,17 +124,7 @@ returns-2 c =
     let s = begin p in
     tick-expired (state s) (s .args .tick) (now (s .args .out)) (sized p) (p .plan-tick .ensures) (r .i .given .0 .0) (r .i .given .1)
     _ [] [] (m .next-number .result) (w .write-kvpub .result) (w .write-kvpub .last .0)
-    (record {
-      table = record {
-        of-keys = k .change-keys .ensures;
-        of-values = v .change-values .ensures;
-        of-key-lengths = n1 .change-numbers .ensures;
-        of-value-lengths = n2 .change-numbers2 .ensures;
-        of-count = c .before .count-after .ensures;
-      };
-      of-numbers = n3 .change-numbers3 .ensures;
-      of-expiries = n4 .change-numbers4 .ensures;
-    })
+    (record { table = record { of-keys = e .of-keys; of-values = e .of-values; of-key-lengths = e .of-key-lengths; of-value-lengths = e .of-value-lengths; of-count = e .of-count }; of-numbers = n1 .change-numbers .ensures; of-expiries = n2 .change-numbers2 .ensures })
     refl (m .next-number .ensures) (a .key-at .ensures) (w .write-kvpub .ensures) (c .with-output .ensures)
 
 enum-told : tie.Need-enum-told
@@ -190,13 +175,12 @@ tick-lent-spec =
     slice-aggregate-write-kvpub-2
     slice-aggregate-write-kvpub-3
     write-kvpub-requires
-    change-keys-requires
-    change-values-requires
+    slice-aggregate-fresh-row
+    slice-aggregate-fresh-row-2
+    fresh-row-requires
+    change-row-requires
     change-numbers-requires
     change-numbers-requires-2
-    change-numbers-requires-3
-    change-numbers-requires-4
-    count-after-requires
     with-output-requires
     same-length
     returns-2
