@@ -1,0 +1,283 @@
+/* The functions of chp.h are static inline, so another language cannot link to them. Here each of them gets an external name, and
+ * the compiler's view of the structs and the header's constants stand in a table. All calls of the comparison and of the measurement go
+ * through here, so the header is tested along with the archive. */
+
+#include <stddef.h>
+#include <stdint.h>
+
+#include "chp.h"
+
+chp_answer shim_server_start(chp_server *s, uint64_t number, uint64_t tick)
+{
+    return chp_server_start(s, number, tick);
+}
+
+chp_answer shim_server_kvset(chp_server *s, const uint8_t *msg, size_t msg_len, uint64_t tick, uint8_t *out, size_t out_len)
+{
+    return chp_server_kvset(s, msg, msg_len, tick, out, out_len);
+}
+
+chp_answer shim_server_tick(chp_server *s, uint64_t tick, uint8_t *out, size_t out_len)
+{
+    return chp_server_tick(s, tick, out, out_len);
+}
+
+chp_answer shim_server_icanhaz(const chp_server *s, const uint8_t *msg, size_t msg_len, uint8_t *out, size_t out_len)
+{
+    return chp_server_icanhaz(s, msg, msg_len, out, out_len);
+}
+
+chp_answer shim_client_start(chp_client *c, const uint8_t *subtree, size_t subtree_len, uint64_t tick)
+{
+    return chp_client_start(c, subtree, subtree_len, tick);
+}
+
+chp_answer shim_client_snapshot(chp_client *c, const uint8_t *msg, size_t msg_len)
+{
+    return chp_client_snapshot(c, msg, msg_len);
+}
+
+chp_answer shim_client_subscriber(chp_client *c, const uint8_t *msg, size_t msg_len, uint64_t tick)
+{
+    return chp_client_subscriber(c, msg, msg_len, tick);
+}
+
+chp_answer shim_client_write_icanhaz(const chp_client *c, uint8_t *out, size_t out_len)
+{
+    return chp_client_write_icanhaz(c, out, out_len);
+}
+
+chp_answer shim_client_write_kvset(const chp_client *c, const uint8_t *key, size_t key_len, const uint8_t *uuid, size_t uuid_len,
+                                   const uint8_t *properties, size_t properties_len, const uint8_t *value, size_t value_len,
+                                   uint8_t *out, size_t out_len)
+{
+    return chp_client_write_kvset(c, key, key_len, uuid, uuid_len, properties, properties_len, value, value_len, out, out_len);
+}
+
+chp_answer shim_client_ask(const chp_client *c, uint64_t tick)
+{
+    return chp_client_ask(c, tick);
+}
+
+chp_answer shim_client_lookup(const chp_client *c, const uint8_t *key, size_t key_len, uint8_t *out, size_t out_len)
+{
+    return chp_client_lookup(c, key, key_len, out, out_len);
+}
+
+/* The calls with the state by value, in the form of the others. Here null pointers have to be replaced beforehand. */
+
+static chp_answer keep_server(chp_server *s, chp_server_reply r)
+{
+    *s = r.state;
+    return r.answer;
+}
+
+static chp_answer keep_client(chp_client *c, chp_client_reply r)
+{
+    *c = r.state;
+    return r.answer;
+}
+
+chp_answer shim_by_value_server_start(chp_server *s, uint64_t number, uint64_t tick)
+{
+    return keep_server(s, chp_by_value_server_start(number, tick));
+}
+
+chp_answer shim_by_value_server_kvset(chp_server *s, const uint8_t *msg, size_t msg_len, uint64_t tick, uint8_t *out, size_t out_len)
+{
+    return keep_server(s, chp_by_value_server_kvset(*s, chp_in(msg), msg_len, tick, chp_out(out), out_len));
+}
+
+chp_answer shim_by_value_server_tick(chp_server *s, uint64_t tick, uint8_t *out, size_t out_len)
+{
+    return keep_server(s, chp_by_value_server_tick(*s, tick, chp_out(out), out_len));
+}
+
+chp_answer shim_by_value_server_icanhaz(chp_server *s, const uint8_t *msg, size_t msg_len, uint8_t *out, size_t out_len)
+{
+    return keep_server(s, chp_by_value_server_icanhaz(*s, chp_in(msg), msg_len, chp_out(out), out_len));
+}
+
+chp_answer shim_by_value_client_start(chp_client *c, const uint8_t *subtree, size_t subtree_len, uint64_t tick)
+{
+    return keep_client(c, chp_by_value_client_start(chp_in(subtree), subtree_len, tick));
+}
+
+chp_answer shim_by_value_client_snapshot(chp_client *c, const uint8_t *msg, size_t msg_len)
+{
+    return keep_client(c, chp_by_value_client_snapshot(*c, chp_in(msg), msg_len));
+}
+
+chp_answer shim_by_value_client_subscriber(chp_client *c, const uint8_t *msg, size_t msg_len, uint64_t tick)
+{
+    return keep_client(c, chp_by_value_client_subscriber(*c, chp_in(msg), msg_len, tick));
+}
+
+chp_answer shim_by_value_client_write_icanhaz(const chp_client *c, uint8_t *out, size_t out_len)
+{
+    return chp_by_value_client_write_icanhaz(*c, chp_out(out), out_len);
+}
+
+chp_answer shim_by_value_client_write_kvset(const chp_client *c, const uint8_t *key, size_t key_len, const uint8_t *uuid, size_t uuid_len,
+                                            const uint8_t *properties, size_t properties_len, const uint8_t *value, size_t value_len,
+                                            uint8_t *out, size_t out_len)
+{
+    return chp_by_value_client_write_kvset(*c, chp_in(key), key_len, chp_in(uuid), uuid_len, chp_in(properties), properties_len,
+                                           chp_in(value), value_len, chp_out(out), out_len);
+}
+
+chp_answer shim_by_value_client_ask(const chp_client *c, uint64_t tick)
+{
+    return chp_by_value_client_ask(*c, tick);
+}
+
+chp_answer shim_by_value_client_lookup(const chp_client *c, const uint8_t *key, size_t key_len, uint8_t *out, size_t out_len)
+{
+    return chp_by_value_client_lookup(*c, chp_in(key), key_len, chp_out(out), out_len);
+}
+
+/* The functions on bytes. */
+
+chp_part shim_value(const uint8_t *msg, size_t msg_len)
+{
+    return chp_value(msg, msg_len);
+}
+
+uint64_t shim_value_refusal(const uint8_t *msg, size_t msg_len)
+{
+    return chp_value_refusal(msg, msg_len);
+}
+
+chp_frame shim_frame_at(const uint8_t *msg, size_t msg_len, size_t at)
+{
+    return chp_frame_at(msg, msg_len, at);
+}
+
+size_t shim_message_length(const uint8_t *bytes, size_t len)
+{
+    return chp_message_length(bytes, len);
+}
+
+size_t shim_put_frame(uint8_t *out, size_t out_len, size_t at, int more, const uint8_t *body, size_t body_len)
+{
+    return chp_put_frame(out, out_len, at, more, body, body_len);
+}
+
+const char *shim_kind_text(uint64_t kind)
+{
+    return chp_kind_text(kind);
+}
+
+const char *shim_refusal_text(uint64_t refusal)
+{
+    return chp_refusal_text(refusal);
+}
+
+/* The archive's own marks in both states. */
+
+int shim_layout_agrees(void)
+{
+    return chp_layout_agrees();
+}
+
+chp_answer shim_layout_server(chp_server *s)
+{
+    return keep_server(s, chp_layout_server());
+}
+
+chp_answer shim_layout_client(chp_client *c)
+{
+    return keep_client(c, chp_layout_client());
+}
+
+typedef struct shim_place {
+    const char *name;
+    uint64_t number;
+} shim_place;
+
+#define SIZE(type) { #type, sizeof(type) }
+#define FIELD(type, field) { #type "." #field, offsetof(type, field) }
+#define NUMBER(name) { #name, name }
+
+/* Each struct's size, then the offset of each of its fields; then the constants. */
+const shim_place shim_layout[] = {
+    SIZE(chp_answer),
+    FIELD(chp_answer, kind),
+    FIELD(chp_answer, refusal),
+    FIELD(chp_answer, number),
+    FIELD(chp_answer, written),
+    SIZE(chp_table),
+    FIELD(chp_table, keys),
+    FIELD(chp_table, values),
+    FIELD(chp_table, key_lengths),
+    FIELD(chp_table, value_lengths),
+    FIELD(chp_table, count),
+    SIZE(chp_server),
+    FIELD(chp_server, table),
+    FIELD(chp_server, numbers),
+    FIELD(chp_server, expiries),
+    FIELD(chp_server, number),
+    FIELD(chp_server, last_tick),
+    FIELD(chp_server, last_published),
+    SIZE(chp_client),
+    FIELD(chp_client, table),
+    FIELD(chp_client, subtree),
+    FIELD(chp_client, subtree_length),
+    FIELD(chp_client, phase),
+    FIELD(chp_client, number),
+    FIELD(chp_client, clock),
+    SIZE(chp_part),
+    FIELD(chp_part, start),
+    FIELD(chp_part, length),
+    SIZE(chp_frame),
+    FIELD(chp_frame, start),
+    FIELD(chp_frame, length),
+    FIELD(chp_frame, more),
+    FIELD(chp_frame, whole),
+    NUMBER(CHP_ROWS),
+    NUMBER(CHP_KEY_MOST),
+    NUMBER(CHP_VALUE_MOST),
+    NUMBER(CHP_PROPERTIES_MOST),
+    NUMBER(CHP_UUID_LENGTH),
+    NUMBER(CHP_IDENTITY_MOST),
+    NUMBER(CHP_NUMBER_MOST),
+    NUMBER(CHP_TICK_MOST),
+    NUMBER(CHP_NEVER),
+    NUMBER(CHP_KVPUB_MOST),
+    NUMBER(CHP_HUGZ_LENGTH),
+    NUMBER(CHP_ICANHAZ_MOST),
+    NUMBER(CHP_SNAPSHOT_MOST),
+    NUMBER(CHP_REFUSED),
+    NUMBER(CHP_STARTED),
+    NUMBER(CHP_APPLIED),
+    NUMBER(CHP_STALE),
+    NUMBER(CHP_OUTSIDE),
+    NUMBER(CHP_SYNCED),
+    NUMBER(CHP_LIVE),
+    NUMBER(CHP_HEARD),
+    NUMBER(CHP_WROTE),
+    NUMBER(CHP_NOTHING),
+    NUMBER(CHP_FOUND),
+    NUMBER(CHP_ABSENT),
+    NUMBER(CHP_PRESENT),
+    NUMBER(CHP_GONE),
+    NUMBER(CHP_ACCEPTED),
+    NUMBER(CHP_FRAMING),
+    NUMBER(CHP_FRAME_COUNT),
+    NUMBER(CHP_WORD),
+    NUMBER(CHP_BAD_KEY),
+    NUMBER(CHP_BAD_SUBTREE),
+    NUMBER(CHP_BAD_SEQUENCE),
+    NUMBER(CHP_BAD_UUID),
+    NUMBER(CHP_BAD_PROPERTIES),
+    NUMBER(CHP_BAD_VALUE),
+    NUMBER(CHP_BAD_TICK),
+    NUMBER(CHP_FULL),
+    NUMBER(CHP_EXHAUSTED),
+    NUMBER(CHP_PHASE),
+    NUMBER(CHP_SHORT_OUTPUT),
+    NUMBER(CHP_BAD_IDENTITY),
+    NUMBER(CHP_ILL_FORMED),
+};
+
+const size_t shim_layout_length = sizeof shim_layout / sizeof shim_layout[0];

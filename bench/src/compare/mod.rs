@@ -1,0 +1,56 @@
+//! Random calls through the C interface and at the peer in step, with everything that comes back
+//! compared.
+
+mod bytes;
+mod caller;
+mod counts;
+mod entries;
+mod fields;
+mod inputs;
+mod lockstep;
+mod meaning;
+mod names;
+mod plant;
+mod session;
+mod states;
+mod sweep;
+mod ways;
+mod wire;
+
+use crate::functions::Form;
+use crate::random::Random;
+use caller::Caller;
+use fields::Mix;
+use lockstep::Lockstep;
+use session::Session;
+
+/// Steps of one session, of one call or a few each.
+const SESSION_STEPS: usize = 600;
+
+/// Makes at least that many calls. With `all`, everything that can come up must have come up.
+pub fn run(form: &'static Form, calls: u64, seed: u64, all: bool) -> bool {
+    println!("compare: {}, seed {seed}", form.name);
+    let mix = Mix { removals: 10, ttls: 10 };
+    let mut caller = Caller { run: Lockstep::new(form, !seed), random: Random::new(seed), pool: Vec::new(), mix };
+    if all {
+        caller.sweep();
+        println!("compare: {} calls over all lengths and places, the others at random", caller.run.calls);
+    }
+    while caller.run.calls < calls && !caller.run.is_spoiled() {
+        let mut session = Session::new(&mut caller);
+        for _ in 0..SESSION_STEPS {
+            session.step();
+        }
+        session.finish();
+    }
+    let mut gaps = caller.run.counts.report();
+    if caller.run.followers == 0 {
+        gaps.push("no client followed to the end of an undisturbed session".to_string());
+    }
+    println!("\n{} clients had the server's rows at the end of an undisturbed session", caller.run.followers);
+    if all {
+        gaps.iter().for_each(|gap| println!("GAP: {gap}"));
+    }
+    println!("{} differences in {} calls", caller.run.differences, caller.run.calls);
+    caller.run.differences == 0 && (gaps.is_empty() || !all)
+}

@@ -1,0 +1,59 @@
+//! Compares the library with the peer, and measures both.
+
+mod c;
+mod cases;
+mod compare;
+mod functions;
+mod header;
+mod instructions;
+mod measure;
+mod random;
+
+use functions::{BY_VALUE, LENT};
+use std::process::ExitCode;
+
+const USAGE: &str = "usage: bench header                            structs, constants and texts of the header
+       bench compare [CALLS [SEED]]            calls in step; all that can come up must come up
+       bench compare-by-value [CALLS [SEED]]   the same with the library's calls that take states by value
+       bench sample [CALLS [SEED]]             as compare, but not all must come up
+       bench measure                           nanoseconds per call
+       bench instructions                      instructions per call, by valgrind
+       bench count CASE KEYS WHO CALLS         one case, for callgrind; WHO is library, peer, library-by-value
+                                               or peer-by-value";
+
+fn number(arguments: &[String], at: usize, otherwise: u64) -> Option<u64> {
+    arguments.get(at).map_or(Some(otherwise), |text| text.parse().ok())
+}
+
+/// Whether the command was understood and went well.
+fn obey(arguments: &[String]) -> Option<bool> {
+    let compare = |form, all| {
+        let (calls, seed) = (number(arguments, 2, 1_000_000)?, number(arguments, 3, 12)?);
+        Some(compare::run(form, calls, seed, all))
+    };
+    match arguments.get(1)?.as_str() {
+        "header" => Some(header::check()),
+        "compare" => compare(&LENT, true),
+        "compare-by-value" => compare(&BY_VALUE, true),
+        "sample" => compare(&LENT, false),
+        "measure" => Some(measure::run()),
+        "instructions" => Some(instructions::run()),
+        "count" => {
+            let calls = number(arguments, 5, 1)?;
+            Some(instructions::count(arguments.get(2)?, arguments.get(3)?, arguments.get(4)?, calls))
+        }
+        _ => None,
+    }
+}
+
+fn main() -> ExitCode {
+    let arguments: Vec<String> = std::env::args().collect();
+    match obey(&arguments) {
+        Some(true) => ExitCode::SUCCESS,
+        Some(false) => ExitCode::FAILURE,
+        None => {
+            eprintln!("{USAGE}");
+            ExitCode::FAILURE
+        }
+    }
+}
