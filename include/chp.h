@@ -27,7 +27,7 @@
  *   - A pointer to a state points to a whole chp_server or chp_client, whatever its bits.
  *   - A pointer to bytes points to as many readable (an output: writable) bytes as the length beside it says. Where that length
  *     is 0 the pointer may be null.
- *   - An output overlaps neither the input bytes nor the state.
+ *   - An output overlaps neither the input bytes nor the state, and the input bytes overlap no state that the call changes.
  *   - No other thread writes a state, an input or an output while a call that is given it runs. Calls on different states need no
  *     care: nothing is shared.
  *
