@@ -15,7 +15,7 @@ use Rattle.base.specs.Bytes.{Bytes, isNil, holds, every}
 use Rattle.base.specs.Cuts.{onFirst, pieces}
 use Rattle.names.specs.Keys.{isName, slashed, isKey, isSubtree}
 
--- ---- bytes that make a scan go on, and bytes that end it
+-- ---- a byte is a slash, zero, or neither
 data Kind (b : ℕ) : Type 0 where
   slash : b ≡ 47 → Kind b
   nul : b ≡ 0 → Kind b
@@ -29,7 +29,7 @@ kind b = go (eqb b 47) refl (eqb b 0) refl
     go false e true f = nul (eqb-true b 0 f)
     go false e false f = plain e f
 
--- ---- what is left of a key where the scan stands in a name: the rest of the name, and the names behind it
+-- ---- what is left of a key within a name: the rest of the name, and the names behind it
 abbrev rest : List Bytes → Bool
 rest [] = true
 rest (name ∷ names) = not (holds 0 name) && every isName names
@@ -111,9 +111,9 @@ unfolding ends
 ends-last a [] = refl
 ends-last a (b ∷ s) = ends-last b s
 
-key-is : (a : ℕ) (s : Bytes) → slashed (pieces 47 (a ∷ s)) ≡ (eqb a 47 && (clean 47 s && ends 47 s))
+slashed-is : (a : ℕ) (s : Bytes) → slashed (pieces 47 (a ∷ s)) ≡ (eqb a 47 && (clean 47 s && ends 47 s))
 unfolding pieces
-key-is a s = go (eqb a 47)
+slashed-is a s = go (eqb a 47)
   where
     go : (t : Bool) → slashed (cond t ([] ∷ pieces 47 s) (onFirst a (pieces 47 s))) ≡ (t && (clean 47 s && ends 47 s))
     go true = first-slash (pieces 47 s) (pieces-some 47 s) ∙ behind-slash s
@@ -136,7 +136,7 @@ key-none (a ∷ s) h = absurd (omega (arith, h))
 pub key-other : (s : Bytes) → 1 ≤ length s → (getD s 0 0 ≡ 47 → ⊥) → isKey s ≡ false
 unfolding isKey
 key-other [] h k = absurd (omega (arith, h))
-key-other (a ∷ s) h k = neither (leb (length (a ∷ s)) 96) _ (key-is a s ∙ rw (ne-eqb a 47 k))
+key-other (a ∷ s) h k = neither (leb (length (a ∷ s)) 96) _ (slashed-is a s ∙ rw (ne-eqb a 47 k))
 
 pub key-open : (s : Bytes) → 1 ≤ length s → getD s 0 0 ≡ 47 → getD s (length s - 1) 0 ≡ 47 → isKey s ≡ false
 unfolding isKey
@@ -144,7 +144,7 @@ key-open [] h e l = absurd (omega (arith, h))
 key-open (a ∷ s) h e l =
     let i : length s ≡ length (a ∷ s) - 1 = omega arith in
     let last : getD (47 ∷ s) (length s) 0 ≡ 47 = ap (λ (x : ℕ). getD (x ∷ s) (length s) 0) (sym e) ∙ ap (λ (k : ℕ). getD (a ∷ s) k 0) i ∙ l in
-    neither (leb (length (a ∷ s)) 96) _ (key-is a s ∙ neither (eqb a 47) _ (neither (clean 47 s) _ (ends-last 47 s ∙ ap not (eq-eqb (getD (47 ∷ s) (length s) 0) 47 last))))
+    neither (leb (length (a ∷ s)) 96) _ (slashed-is a s ∙ neither (eqb a 47) _ (neither (clean 47 s) _ (ends-last 47 s ∙ ap not (eq-eqb (getD (47 ∷ s) (length s) 0) 47 last))))
 
 -- a slash first and none last: it is a key if the pass finds nothing
 pub key-passed : (s : Bytes) → 1 ≤ length s → length s ≤ 96 → getD s 0 0 ≡ 47 → (getD s (length s - 1) 0 ≡ 47 → ⊥) → isKey s ≡ clean (getD s 0 0) (drop 1 s)
@@ -154,7 +154,7 @@ key-passed (a ∷ s) h k e n =
     let i : length (a ∷ s) - 1 ≡ length s = omega arith in
     let same : getD (a ∷ s) (length (a ∷ s) - 1) 0 ≡ getD (47 ∷ s) (length s) 0 = ap (λ (k : ℕ). getD (a ∷ s) k 0) i ∙ ap (λ (x : ℕ). getD (x ∷ s) (length s) 0) e in
     let last : ends 47 s ≡ true = ends-last 47 s ∙ ap not (ne-eqb (getD (47 ∷ s) (length s) 0) 47 (λ l. n (same ∙ l))) in
-    rw (le-leb (length (a ∷ s)) 96 k) (key-is a s ∙ rw (e, last, and-true))
+    rw (le-leb (length (a ∷ s)) 96 k) (slashed-is a s ∙ rw (e, last, and-true))
 
 -- what the pass keeps: whether anything was found, and the bytes that are left
 module _ (s : Bytes) (i a : ℕ) (x good : Bool) (h : x ≡ (good && clean a (drop i s))) where
