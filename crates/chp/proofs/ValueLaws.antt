@@ -13,8 +13,8 @@ use Rattle.answers.specs.declared.refusal.Refusal.the-variants.{Framing, FrameC
 use Rattle.base.specs.Bytes.{Bytes}
 use Rattle.base.specs.Checks.Check.{when}
 use Rattle.base.specs.Checks.{firstOf}
-use Rattle.chp.specs.Parts.{IsValue}
-use Rattle.frames.proofs.FrameGrammar.{ended}
+use Rattle.chp.specs.Values.{IsValue}
+use Rattle.frames.proofs.FrameGrammar.{ended, some-frame}
 use Rattle.frames.proofs.MessageLaws.{frames-step, none-some, prepended}
 use Rattle.frames.specs.Messages.{through, framesIn}
 use Rattle.frames.specs.Steps.{stepOf}
@@ -34,15 +34,6 @@ ends-drop n s b h =
 
 ends-whole : (len : ℕ) (s : Bytes) → drop len s ≡ [] → Ends s (take len s)
 ends-whole len s e = record { front = []; is = sym (take-append-drop len s) ∙ ap (λ (t : Bytes). take len s ++ t) e ∙ append-nil (take len s) }
-
--- a message has a frame
-some-frame : (s : Bytes) (bodies : List Bytes) → framesIn s ≡ some bodies → length bodies ≡ 0 → ⊥
-some-frame s bodies e n = go (stepOf s) (sym (frames-step s) ∙ e)
-  where
-    go : (x : Step) → through framesIn s x ≡ some bodies → ⊥
-    go Broken e = none-some bodies e
-    go (Frame start len false) e = omega (arith, n, ap length (ended (take len (drop start s)) (drop len (drop start s)) bodies e .1))
-    go (Frame start len true) e = omega (arith, n, ap length (prepended (take len (drop start s)) (framesIn (drop len (drop start s))) bodies e .2))
 
 -- the body of the last frame ends the message
 last-ends : (k : ℕ) (s : Bytes) (bodies : List Bytes) → length bodies ≡ suc k → framesIn s ≡ some bodies → Ends s (getD bodies k [])

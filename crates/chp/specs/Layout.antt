@@ -1,9 +1,14 @@
--- States in which every field holds a mark of its own.
+-- The version, and states in which every field holds a mark of its own.
+use Prim.Native.Nat.{ℕ}
 use lib.ListN.{replicate}
 use Rattle.chp.specs.declared.ClientReply.{ClientReply}
 use Rattle.chp.specs.declared.ServerReply.{ServerReply}
 use Rattle.chp.specs.declared.plain.PlainAnswer.{PlainAnswer}
 use Rattle.table.specs.declared.Table.{Table}
+
+-- 0.7.0: a million times the major, a thousand times the minor, and the patch
+abbrev pub version : ℕ
+version = 7000
 
 abbrev markedTable : Table
 markedTable =

@@ -1,4 +1,4 @@
 pub mod Exports
 pub mod Layout
-pub mod Parts
 pub mod Plain
+pub mod Values

@@ -1,4 +1,4 @@
-// States in which every field holds a mark of its own, so that a host can test whether its declarations have the library's layout.
+// What a host tests its declarations by: the version of the library, and states in which every field holds a mark of its own.
 use crate::ClientReply;
 use crate::ServerReply;
 use crate::plain::PlainAnswer;
@@ -8,7 +8,18 @@ use names::numbers::Tick;
 use server_state::Server;
 use table::Table;
 ghost use mathlib.Core.Path.{_≡_};
-ghost use Rattle.chp.specs.Layout.{markedServer, markedClient};
+ghost use Rattle.chp.specs.Layout.{version, markedServer, markedClient};
+
+// The version: a million times the major, a thousand times the minor, and the patch.
+const VERSION: u64 = 7000;
+
+// The version that the library was built as.
+#[no_mangle]
+pub extern "C" fn chp_archive_version() -> u64
+    ensures { λ r. ⌜ r ≡ version ⌝ }
+{
+    VERSION
+}
 
 fn marked_table() -> Table
     ensures { λ r. ⌜ r ≡ markedServer .state .table ⌝ }

@@ -10,9 +10,11 @@ pub mod bytes;
 pub mod client_by_value;
 pub mod client_lent;
 pub mod layout;
+pub mod name_tests;
 pub mod plain;
 pub mod server_by_value;
 pub mod server_lent;
+pub mod socket_parts;
 
 // The state after a call on a server, and what the call answers.
 #[repr(C)]

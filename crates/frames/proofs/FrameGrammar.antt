@@ -113,6 +113,15 @@ pub ended : (body rest : Bytes) (bodies : List Bytes) → last body rest ≡ som
 ended body [] bodies e = (refl, cc)
 ended body (x ∷ rest) bodies e = none-some bodies e
 
+-- a message has a frame
+pub some-frame : (s : Bytes) (bodies : List Bytes) → framesIn s ≡ some bodies → length bodies ≡ 0 → ⊥
+some-frame s bodies e n = go (stepOf s) (sym (frames-step s) ∙ e)
+  where
+    go : (x : Step) → through framesIn s x ≡ some bodies → ⊥
+    go Broken e = none-some bodies e
+    go (Frame start len false) e = omega (arith, n, ap length (ended (take len (drop start s)) (drop len (drop start s)) bodies e .1))
+    go (Frame start len true) e = omega (arith, n, ap length (prepended (take len (drop start s)) (framesIn (drop len (drop start s))) bodies e .2))
+
 one-frame : (s front body rest : Bytes) → s ≡ front ++ rest → rest ≡ [] → IsFrame false body front → IsMessage (body ∷ []) s
 one-frame s front body rest e f h = rw (e, f, append-nil front) (final body front h)
 
@@ -120,16 +129,7 @@ more-frames : (s front body rest : Bytes) (bodies : List Bytes) → s ≡ front 
 more-frames s front body rest bodies e h k = rw e (further body bodies front rest h k)
 
 pub message-known : (bodies : List Bytes) (s : Bytes) → every isOctet s ≡ true → framesIn s ≡ some bodies → IsMessage bodies s
-message-known [] s o e = go (stepOf s) (sym (frames-step s) ∙ e)
-  where
-    go : (x : Step) → through framesIn s x ≡ some [] → IsMessage [] s
-    go Broken f = none-some [] f
-    go (Frame start len false) f =
-        let k = ended (take len (drop start s)) (drop len (drop start s)) [] f in
-        absurd (omega (arith, ap length (k .1)))
-    go (Frame start len true) f =
-        let k = prepended (take len (drop start s)) (framesIn (drop len (drop start s))) [] f in
-        absurd (omega (arith, ap length (k .2)))
+message-known [] s o e = absurd (some-frame s [] e refl)
 message-known (b ∷ bs) s o e = go (λ t p f. message-known bs t p f) (stepOf s) refl (sym (frames-step s) ∙ e)
   where
     octets-behind : (start len : ℕ) (more : Bool) → Front s start len more → every isOctet (drop len (drop start s)) ≡ true

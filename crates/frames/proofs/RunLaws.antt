@@ -7,7 +7,7 @@ use mathlib.Core.Option.{Option, none, some, Option·map, map-eq-some-iff}
 use mathlib.Core.Path.{_≡_, refl, sym, ap, _∙_}
 use lib.Dec.{leb}
 use lib.ListN.{length, take, drop, length-append, length-take, length-drop, take-append-drop}
-use lib.Seq.{length-take-le, take-append-seam, drop-append-seam, take-append-le, drop-drop, take-add, drop-at}
+use lib.Seq.{length-take-le, take-append-seam, drop-append-seam, take-append-le, drop-drop, take-add, take-at, drop-at}
 use borrow.Author.Tests.{le-leb}
 use Rattle.base.proofs.CutLaws.{tail-part, tail-length}
 use Rattle.base.specs.Bytes.{Bytes}
@@ -103,6 +103,13 @@ module _ (s : Bytes) (start len : ℕ) (more : Bool) (e : stepOf s ≡ Frame sta
     again-rest : drop len (drop start t) ≡ behind
     again-rest = drop-drop len start t ∙ rw w (drop-at (take (start + len) s) behind (start + len) front)
 
+    again-body : take len (drop start t) ≡ take len (drop start s)
+    again-body =
+        let k = within in
+        let h : len ≤ length (drop start s) = simp length-drop (omega arith) in
+        rw
+        (w, take-add start len s, append-assoc (take start s) (take len (drop start s)) behind, drop-at (take start s) (take len (drop start s) ++ behind) start (length-take-le start s (omega arith)), take-at (take len (drop start s)) behind len (length-take-le len (drop start s) h))
+
 -- ---- the first message and its end
 -- what holds of some bytes if it holds of all shorter ones holds of all bytes
 by-length : (P : Bytes → Type 0) → ((s : Bytes) → ((t : Bytes) → length t < length s → P t) → P s) → (s : Bytes) → P s
@@ -140,30 +147,48 @@ end-before = by-length Ends (λ s ih rest bodies f. go s ih rest bodies (stepOf 
 pub end-whole : (s : Bytes) (bodies : List Bytes) → framesIn s ≡ some bodies → endIn s ≡ some (length s)
 end-whole s bodies e = rw append-nil at (end-before s [] bodies e)
 
+-- what is cut off reads as its first frame, and then as what is cut off behind that
+module _ (s : Bytes) (n : ℕ) (f : endIn s ≡ some n) (start len : ℕ) where
+  pub cut-last : stepOf s ≡ Frame start len false → (n ≡ start + len) × (framesIn (take n s) ≡ some (take len (drop start s) ∷ []))
+  cut-last e =
+      let t = take (start + len) s in
+      let w : t ≡ t ++ [] = sym (append-nil t) in
+      let z : n ≡ start + len = go in
+      (z, rw z (frames-step t ∙ rw (again-step s start len false e t [] w, again-rest s start len false e t [] w, again-body s start len false e t [] w)))
+    where
+      go : n ≡ start + len
+      go = let g : some (start + len) ≡ some n = ap (endThrough endIn s) (sym e) ∙ sym (end-step s) ∙ f in cc
+
+  abbrev rest : Bytes
+  rest = drop len (drop start s)
+
+  pub cut-more : stepOf s ≡ Frame start len true
+      → (m : ℕ) × (endIn rest ≡ some m) × (n ≡ start + len + m) × (framesIn (take n s) ≡ Option·map (λ (bodies : List Bytes). take len (drop start s) ∷ bodies) (framesIn (take m rest)))
+  cut-more e =
+      let k = map-eq-some-iff (λ (m : ℕ). start + len + m) (endIn rest) .0 (ap (endThrough endIn s) (sym e) ∙ sym (end-step s) ∙ f) in
+      (k .0, k .1, sym (k .2), ap (λ (m : ℕ). framesIn (take m s)) (sym (k .2)) ∙ read (k .0))
+    where
+      read : (m : ℕ) → framesIn (take (start + len + m) s) ≡ Option·map (λ (bodies : List Bytes). take len (drop start s) ∷ bodies) (framesIn (take m rest))
+      read m =
+          let t = take (start + len + m) s in
+          let w : t ≡ take (start + len) s ++ take m rest = rw drop-drop (take-add (start + len) m s) in
+          frames-step t ∙ rw (again-step s start len true e t _ w, again-rest s start len true e t _ w, again-body s start len true e t _ w)
+
 abbrev Cut : Bytes → Type 0
 Cut s = (n : ℕ) → endIn s ≡ some n → (bodies : List Bytes) × (framesIn (take n s) ≡ some bodies)
 
--- what is cut off is a whole message
+-- so it is a whole message
 pub cut-sound : (s : Bytes) (n : ℕ) → endIn s ≡ some n → (bodies : List Bytes) × (framesIn (take n s) ≡ some bodies)
-cut-sound = by-length Cut (λ s ih n f. go s ih n (stepOf s) refl (sym (end-step s) ∙ f))
+cut-sound = by-length Cut (λ s ih n f. go s ih n f (stepOf s) refl)
   where
-    parted : (s : Bytes) (start len m : ℕ) → take (start + len + m) s ≡ take (start + len) s ++ take m (drop len (drop start s))
-    parted s start len m = rw drop-drop (take-add (start + len) m s)
-
-    go : (s : Bytes) → ((t : Bytes) → length t < length s → Cut t) → (n : ℕ) (x : Step) → stepOf s ≡ x → endThrough endIn s x ≡ some n
+    go : (s : Bytes) → ((t : Bytes) → length t < length s → Cut t) → (n : ℕ) → endIn s ≡ some n → (x : Step) → stepOf s ≡ x
         → (bodies : List Bytes) × (framesIn (take n s) ≡ some bodies)
-    go s ih n Broken e f = none-some n f
-    go s ih n (Frame start len false) e f =
-        let t = take (start + len) s in
-        let w : t ≡ t ++ [] = sym (append-nil t) in
-        let z : n ≡ start + len = cc in
-        rw z (take len (drop start t) ∷ [], frames-step t ∙ rw (again-step s start len false e t [] w, again-rest s start len false e t [] w))
-    go s ih n (Frame start len true) e f =
-        let k = map-eq-some-iff (λ (m : ℕ). start + len + m) (endIn (drop len (drop start s))) .0 f in
-        let t = take (start + len + k .0) s in
-        let w = parted s start len (k .0) in
+    go s ih n f Broken e = none-some n (ap (endThrough endIn s) (sym e) ∙ sym (end-step s) ∙ f)
+    go s ih n f (Frame start len false) e = (take len (drop start s) ∷ [], cut-last s n f start len e .1)
+    go s ih n f (Frame start len true) e =
+        let k = cut-more s n f start len e in
         let i = ih (drop len (drop start s)) (rest-fewer s start len true e) (k .0) (k .1) in
-        rw (← k .2) (take len (drop start t) ∷ i .0, frames-step t ∙ rw (again-step s start len true e t _ w, again-rest s start len true e t _ w, i .1))
+        (take len (drop start s) ∷ i .0, k .3 ∙ rw (i .1))
 
 -- a message that was written is found again
 module _ (b : Bytes) (bs : List Bytes) (rest : Bytes) (h : Sized (b ∷ bs)) where
@@ -180,7 +205,7 @@ unfolding messageIn
 message-within s = simp length-take (omega arith)
 
 -- ---- a run is its first message and what is behind it; the bound on the number of messages does not matter
-end-least : (s : Bytes) (n : ℕ) → endIn s ≡ some n → 2 ≤ n
+pub end-least : (s : Bytes) (n : ℕ) → endIn s ≡ some n → 2 ≤ n
 end-least s n e = go (stepOf s) (step-sound s) (sym (end-step s) ∙ e)
   where
     go : (x : Step) → Sound (length s) x → endThrough endIn s x ≡ some n → 2 ≤ n

@@ -38,8 +38,8 @@ use Rattle.server_state.specs.Views.{Held}
 use Rattle.joining.proofs.PublicationLaws.{GoodUpdate}
 use Rattle.joining.specs.Book.ServerStart.{begin}
 use Rattle.joining.specs.Book.{Book, ServerStart, blank, bookStart, bookRefusal, bookKvset, bookTick, entered, bookNext, bookAfter}
-use Rattle.joining.specs.Logs.Log.{empty, _▷_}
-use Rattle.joining.specs.Logs.{Log}
+use Rattle.base.specs.Logs.Log.{empty, _▷_}
+use Rattle.base.specs.Logs.{Log}
 
 -- ---- what holds of all rows
 module _ {A : Type 0} (P : Bytes × A → Type 0) where

@@ -30,8 +30,8 @@ use Rattle.ports.specs.Ports.{framed, kthxbaiChecks, kvsyncChecks, snapshotChec
 use Rattle.rows.specs.Rows.{hasKey}
 use Rattle.joining.proofs.PublicationLaws.{passes-kvpub, passes-hugz}
 use Rattle.joining.specs.Ends.{ClientStart, clientRefusal, clientNext, clientAfter, handed, accepts, hears, heard}
-use Rattle.joining.specs.Logs.Log.{empty, _▷_}
-use Rattle.joining.specs.Logs.{Log, Among, add}
+use Rattle.base.specs.Logs.Log.{empty, _▷_}
+use Rattle.base.specs.Logs.{Log, Among, add}
 use Rattle.joining.specs.Readings.{isKvpub, numberOf}
 
 -- what an update makes of a client

@@ -31,8 +31,8 @@ use Rattle.joining.proofs.PublicationLaws.{update-passes, update-head, 
 use Rattle.joining.specs.Book.{ServerStart, mapAt}
 use Rattle.joining.specs.Ends.{published, clientRefusal}
 use Rattle.joining.specs.Joining.{highest, atLeast, Follows}
-use Rattle.joining.specs.Logs.Log.{_▷_}
-use Rattle.joining.specs.Logs.{Log, Among}
+use Rattle.base.specs.Logs.Log.{_▷_}
+use Rattle.base.specs.Logs.{Log, Among}
 use Rattle.joining.specs.Readings.{numberOf, kvpubNumber}
 
 -- ---- an update, cut to a part

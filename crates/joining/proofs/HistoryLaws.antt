@@ -24,8 +24,8 @@ use Rattle.joining.proofs.ServerLaws.Move.{stays, steps}
 use Rattle.joining.proofs.ServerLaws.{Move, book-move}
 use Rattle.joining.specs.Book.{Book, ServerStart, bookStart, bookAfter, valueOf, mapOf, mapAt, rise, rises}
 use Rattle.joining.specs.Ends.{serverAfter, publishes, published}
-use Rattle.joining.specs.Logs.Log.{empty, _▷_}
-use Rattle.joining.specs.Logs.{Log, _⧺_, Among, add}
+use Rattle.base.specs.Logs.Log.{empty, _▷_}
+use Rattle.base.specs.Logs.{Log, _⧺_, Among, add}
 use Rattle.joining.specs.Readings.{kvpubNumbers}
 
 -- ---- the book's number, first and last

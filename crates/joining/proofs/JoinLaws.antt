@@ -32,8 +32,8 @@ use Rattle.joining.proofs.SnapshotLaws.{snapshotOf, syncsOf, granted-su
 use Rattle.joining.specs.Book.{Book, ServerStart, bookRefusal, bookAfter, valueOf, mapOf, mapAt}
 use Rattle.joining.specs.Ends.{ClientStart, serverAfter, published, answerTo, clientNext, clientAfter, accepts, hears, accepted}
 use Rattle.joining.specs.Joining.{AllBetween, NoGap, highest, Follows, held, heldBy}
-use Rattle.joining.specs.Logs.Log.{empty, _▷_}
-use Rattle.joining.specs.Logs.{Log, _⧺_, Among, add}
+use Rattle.base.specs.Logs.Log.{empty, _▷_}
+use Rattle.base.specs.Logs.{Log, _⧺_, Among, add}
 use Rattle.joining.specs.Readings.{isKvpub, numberOf}
 
 -- ---- the server's keys and values are the book's, and a part of them is the same part of the book's map

@@ -25,8 +25,8 @@ use Rattle.joining.proofs.ServerLaws.{server-number}
 use Rattle.joining.specs.Book.{ServerStart, mapAt}
 use Rattle.joining.specs.Ends.{ClientStart, published, clientRefusal, clientAfter, accepts, accepted}
 use Rattle.joining.specs.Joining.{Joined, joinedAt, answered, AllBetween, NoGap, highest, Follows, Joining}
-use Rattle.joining.specs.Logs.Log.{empty, _▷_}
-use Rattle.joining.specs.Logs.{Log, _⧺_, Among, add}
+use Rattle.base.specs.Logs.Log.{empty, _▷_}
+use Rattle.base.specs.Logs.{Log, _⧺_, Among, add}
 use Rattle.joining.specs.Readings.{isKvpub, numberOf}
 
 -- ---- what a client accepts

@@ -33,8 +33,8 @@ use Rattle.joining.specs.Book.{ServerStart, bookRefusal, bookAfter}
 use Rattle.joining.specs.Ends.ClientStart.{wait}
 use Rattle.joining.specs.Ends.{ClientStart, serverAfter, published, answerTo, clientRefusal, clientNext, clientAfter, accepts, hears, accepted}
 use Rattle.joining.specs.Joining.{AllBetween, NoGap, Joined}
-use Rattle.joining.specs.Logs.Log.{empty, _▷_}
-use Rattle.joining.specs.Logs.{Log, _⧺_, Among}
+use Rattle.base.specs.Logs.Log.{empty, _▷_}
+use Rattle.base.specs.Logs.{Log, _⧺_, Among}
 use Rattle.joining.specs.Possible.{handedIn, Possible}
 use Rattle.joining.specs.Readings.{isKvpub, numberOf}
 

@@ -30,8 +30,8 @@ use Rattle.joining.proofs.PublicationLaws.{GoodUpdate, update-written, 
 use Rattle.joining.specs.Book.ServerStart.{begin}
 use Rattle.joining.specs.Book.{Book, ServerStart, blank, bookStart, bookRefusal, bookKvset, bookTick, entered, bookNext, bookAfter, valueOf, mapOf}
 use Rattle.joining.specs.Ends.{serverStart, serverRefusal, serverNext, serverBytes, serverAfter, message, publishes}
-use Rattle.joining.specs.Logs.Log.{empty, _▷_}
-use Rattle.joining.specs.Logs.{Log}
+use Rattle.base.specs.Logs.Log.{empty, _▷_}
+use Rattle.base.specs.Logs.{Log}
 
 -- ---- the ledger of a server without the rows' numbers, and its book
 ledger-kvset : (v : Ledger Entry) (f : Fields) (t : ℕ) → Sound (ledgerOf v) → ledgerOf (kvsetNext v f t) ≡ bookKvset (ledgerOf v) f t

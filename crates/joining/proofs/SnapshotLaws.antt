@@ -43,8 +43,8 @@ use Rattle.joining.specs.Book.{Book, bookRefusal}
 use Rattle.joining.specs.Ends.ClientStart.{wait}
 use Rattle.joining.specs.Ends.{serverRefusal, serverBytes, answerTo, ClientStart, clientStart, clientAfter, accepted}
 use Rattle.joining.specs.Joining.{held}
-use Rattle.joining.specs.Logs.Log.{empty, _▷_}
-use Rattle.joining.specs.Logs.{Log, add, onto}
+use Rattle.base.specs.Logs.Log.{empty, _▷_}
+use Rattle.base.specs.Logs.{Log, add, onto}
 use Rattle.joining.specs.Readings.{numberOf}
 
 abbrev pub mapLog : {A B : Type 0} → (A → B) → Log A → Log B

@@ -36,8 +36,8 @@ use Rattle.joining.proofs.LogLaws.{AllOf, size, size-onto}
 use Rattle.joining.proofs.SnapshotLaws.{Sent, all-sent, syncOf, endOf, sentRows, syncsOf, snapshotOf, mapLog, sound-number, sync-fields, end-word}
 use Rattle.joining.specs.Ends.ClientStart.{wait}
 use Rattle.joining.specs.Ends.{ClientStart, clientStart, clientRefusal, clientNext, clientAfter, accepts, accepted}
-use Rattle.joining.specs.Logs.Log.{empty, _▷_}
-use Rattle.joining.specs.Logs.{Log}
+use Rattle.base.specs.Logs.Log.{empty, _▷_}
+use Rattle.base.specs.Logs.{Log}
 use Rattle.joining.specs.Possible.{handedIn}
 
 length-put : (k a : Bytes) (l : Rows Bytes) → length (setRow k a l) ≤ suc (length l)

@@ -19,8 +19,8 @@ use Rattle.server_plan.specs.Deeds.{Deed, deed}
 use Rattle.server_plan.specs.Next.{expiryAt}
 use Rattle.server_plan.specs.Refusals.{callChecks}
 use Rattle.server_state.specs.Views.{Held, Ledger}
-use Rattle.joining.specs.Logs.Log.{empty, _▷_}
-use Rattle.joining.specs.Logs.{Log, add}
+use Rattle.base.specs.Logs.Log.{empty, _▷_}
+use Rattle.base.specs.Logs.{Log, add}
 
 -- a number, the last tick, when something was last published, and rows of key, value and expiry in key order
 abbrev pub Book : Type 0

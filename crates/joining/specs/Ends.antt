@@ -30,8 +30,8 @@ use Rattle.server_plan.specs.Refusals.{callChecks as serverChecks}
 use Rattle.server_state.specs.Views.{Entry, Ledger, ledgerOf}
 use Rattle.joining.specs.Book.ServerStart.{begin}
 use Rattle.joining.specs.Book.{ServerStart}
-use Rattle.joining.specs.Logs.Log.{empty, _▷_}
-use Rattle.joining.specs.Logs.{Log, add, onto}
+use Rattle.base.specs.Logs.Log.{empty, _▷_}
+use Rattle.base.specs.Logs.{Log, add, onto}
 
 -- ---- a server
 unfoldable pub serverStart : ServerStart → Ledger Entry

@@ -15,8 +15,8 @@ use Rattle.server_plan.specs.Calls.Call.{icanhaz}
 use Rattle.server_state.specs.Views.{Entry, Ledger}
 use Rattle.joining.specs.Book.{ServerStart, bookRefusal, bookAfter, mapOf, mapAt, rises}
 use Rattle.joining.specs.Ends.{ClientStart, serverAfter, published, answerTo, clientRefusal, clientNext, clientAfter, handed, hears, accepted, heard}
-use Rattle.joining.specs.Logs.Log.{empty, _▷_}
-use Rattle.joining.specs.Logs.{Log, _⧺_, Among}
+use Rattle.base.specs.Logs.Log.{empty, _▷_}
+use Rattle.base.specs.Logs.{Log, _⧺_, Among}
 use Rattle.joining.specs.Readings.{isKvpub, keyOf, numberOf, kvpubNumber, kvpubNumbers}
 
 -- ---- what is supposed

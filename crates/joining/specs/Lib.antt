@@ -1,6 +1,5 @@
 pub mod Book
 pub mod Ends
 pub mod Joining
-pub mod Logs
 pub mod Possible
 pub mod Readings

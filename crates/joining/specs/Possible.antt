@@ -16,8 +16,8 @@ use Rattle.joining.specs.Book.{ServerStart, bookRefusal, bookAfter}
 use Rattle.joining.specs.Ends.ClientStart.{wait}
 use Rattle.joining.specs.Ends.{ClientStart, serverAfter, answerTo, clientAfter}
 use Rattle.joining.specs.Joining.{Joined}
-use Rattle.joining.specs.Logs.Log.{empty, _▷_}
-use Rattle.joining.specs.Logs.{Log, _⧺_}
+use Rattle.base.specs.Logs.Log.{empty, _▷_}
+use Rattle.base.specs.Logs.{Log, _⧺_}
 
 -- messages handed in at the snapshot entry, one after the other
 unfoldable pub handedIn : Log Bytes → Log ClientCall

@@ -8,8 +8,8 @@ use Rattle.base.specs.Bytes.{Bytes, same}
 use Rattle.base.specs.Octets.{number}
 use Rattle.messages.specs.Fields.{partsOf, frameAt}
 use Rattle.names.specs.Words.{wordHugz}
-use Rattle.joining.specs.Logs.Log.{empty, _▷_}
-use Rattle.joining.specs.Logs.{Log, add}
+use Rattle.base.specs.Logs.Log.{empty, _▷_}
+use Rattle.base.specs.Logs.{Log, add}
 
 -- five frames, of which the first is not the word of a sign of life
 unfoldable pub isKvpub : Bytes → Bool

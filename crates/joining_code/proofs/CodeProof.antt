@@ -23,8 +23,8 @@ use Rattle.joining.proofs.JoiningProof.{joining}
 use Rattle.joining.specs.Book.{ServerStart}
 use Rattle.joining.specs.Ends.{serverStart, serverRefusal, serverNext, serverBytes, serverAnswer, serverAfter, ClientStart, clientStart, clientRefusal, clientNext, clientBytes, clientAnswer, clientAfter}
 use Rattle.joining.specs.Joining.{Joined, joinedAt, Follows, heldBy}
-use Rattle.joining.specs.Logs.Log.{empty}
-use Rattle.joining.specs.Logs.{Log}
+use Rattle.base.specs.Logs.Log.{empty}
+use Rattle.base.specs.Logs.{Log}
 use Rattle.joining_code.specs.Code.{Steps, ServerSteps, ClientSteps, Linked}
 use Rattle.joining_code.specs.Runs.ClientRan.{began as client-began, called as client-called}
 use Rattle.joining_code.specs.Runs.ServerRan.{began as server-began, called as server-called}

@@ -11,7 +11,7 @@ use Rattle.client_state.specs.declared.Client.{Client}
 use Rattle.joining.specs.Book.{ServerStart, bookAfter, mapOf}
 use Rattle.joining.specs.Ends.{serverNext, serverBytes, serverAnswer, serverAfter, ClientStart, clientNext, clientBytes, clientAnswer, clientAfter}
 use Rattle.joining.specs.Joining.{Joined, joinedAt, Follows, heldBy}
-use Rattle.joining.specs.Logs.{Log}
+use Rattle.base.specs.Logs.{Log}
 use Rattle.server_plan.specs.Calls.{Call as ServerCall}
 use Rattle.server_plan.specs.Promises.{Answered as ServerAnswered}
 use Rattle.server_plan.specs.declared.Reply.{Reply as ServerReply}

@@ -12,8 +12,8 @@ use Rattle.joining.specs.Book.ServerStart.{begin}
 use Rattle.joining.specs.Book.{ServerStart}
 use Rattle.joining.specs.Ends.ClientStart.{wait}
 use Rattle.joining.specs.Ends.{ClientStart}
-use Rattle.joining.specs.Logs.Log.{empty, _▷_}
-use Rattle.joining.specs.Logs.{Log}
+use Rattle.base.specs.Logs.Log.{empty, _▷_}
+use Rattle.base.specs.Logs.{Log}
 use Rattle.server.specs.Start.{Began as ServerBegan}
 use Rattle.server_plan.specs.Calls.{Call as ServerCall}
 use Rattle.server_plan.specs.Promises.{Answered as ServerAnswered}

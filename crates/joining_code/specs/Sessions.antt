@@ -9,8 +9,8 @@ use Rattle.client_plan.specs.Calls.{Call as ClientCall}
 use Rattle.client_state.specs.declared.Client.{Client}
 use Rattle.joining.specs.Book.{ServerStart}
 use Rattle.joining.specs.Ends.{serverBytes, serverAnswer, serverAfter, ClientStart, clientBytes, clientAfter}
-use Rattle.joining.specs.Logs.Log.{empty, _▷_}
-use Rattle.joining.specs.Logs.{Log}
+use Rattle.base.specs.Logs.Log.{empty, _▷_}
+use Rattle.base.specs.Logs.{Log}
 use Rattle.server_plan.specs.Calls.Call.{kvset, tick, icanhaz}
 use Rattle.server_plan.specs.Calls.{Call as ServerCall}
 use Rattle.server_plan.specs.declared.Reply.{Reply as ServerReply}

@@ -13,8 +13,8 @@ use Rattle.client_state.specs.Views.{Replica}
 use Rattle.joining.specs.Book.{ServerStart}
 use Rattle.joining.specs.Ends.{ClientStart, published, clientAfter, hears}
 use Rattle.joining.specs.Joining.{AllBetween, NoGap}
-use Rattle.joining.specs.Logs.Log.{empty, _▷_}
-use Rattle.joining.specs.Logs.{Log, Among}
+use Rattle.base.specs.Logs.Log.{empty, _▷_}
+use Rattle.base.specs.Logs.{Log, Among}
 use Rattle.joining.specs.Readings.{isKvpub, keyOf, numberOf}
 use Rattle.names.specs.Keys.{under}
 use Rattle.server_plan.specs.Calls.{Call as ServerCall}

@@ -9,8 +9,8 @@ use lib.ListN.{length, getD}
 use Rattle.base.specs.Bytes.{Bytes}
 use Rattle.joining.specs.Ends.{published}
 use Rattle.joining.specs.Joining.{NoGap}
-use Rattle.joining.specs.Logs.Log.{empty, _▷_}
-use Rattle.joining.specs.Logs.{Log, Among}
+use Rattle.base.specs.Logs.Log.{empty, _▷_}
+use Rattle.base.specs.Logs.{Log, Among}
 use Rattle.joining_witness.proofs.Computed.{computed}
 use Rattle.joining_witness.proofs.GapTests.{are-among, not-among, no-gap}
 use Rattle.joining_witness.specs.Needed.{kvpubA, kvpubB, sets, twoSets, skips, foreign, strays, keyA, askedTwice, mixes, NeededGap, NeededOwn, NeededWhole}

@@ -13,8 +13,8 @@ use Rattle.client_plan.specs.Calls.{Call as ClientCall}
 use Rattle.joining.specs.Book.{bookRefusal, bookAfter, mapAt}
 use Rattle.joining.specs.Ends.{ClientStart, serverAfter, published, answerTo, clientAfter, accepted}
 use Rattle.joining.specs.Joining.{AllBetween, highest}
-use Rattle.joining.specs.Logs.Log.{empty, _▷_}
-use Rattle.joining.specs.Logs.{Log, _⧺_}
+use Rattle.base.specs.Logs.Log.{empty, _▷_}
+use Rattle.base.specs.Logs.{Log, _⧺_}
 use Rattle.joining_witness.proofs.Computed.{computed}
 use Rattle.joining_witness.proofs.GapTests.{allAmong, are-among, gapless, near, no-gap}
 use Rattle.joining_witness.specs.Session.{undo7, undo70, cut, new, firstRequest, secondRequest, thirdRequest, fourthRequest, kvpub1, kvpub2, kvpub3, kvpub4, beating, opens, opening, joining, changes, calls, firstStart, firstJoins, firstFollows, firstCalls, secondStart, secondCalls, thirdStart, thirdCalls, fourthStart, fourthCalls}

@@ -3,8 +3,8 @@ use Rattle.answers.specs.declared.answer.Kind.{Kind}
 use Rattle.client_plan.specs.Calls.{Call as ClientCall}
 use Rattle.joining.specs.Book.{ServerStart}
 use Rattle.joining.specs.Ends.{ClientStart, serverAnswer, serverAfter, clientAnswer, clientAfter}
-use Rattle.joining.specs.Logs.Log.{empty, _▷_}
-use Rattle.joining.specs.Logs.{Log}
+use Rattle.base.specs.Logs.Log.{empty, _▷_}
+use Rattle.base.specs.Logs.{Log}
 use Rattle.server_plan.specs.Calls.{Call as ServerCall}
 
 unfoldable pub serverKinds : ServerStart → Log ServerCall → Log Kind

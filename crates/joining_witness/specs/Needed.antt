@@ -11,8 +11,8 @@ use Rattle.client_plan.specs.Calls.{Call as ClientCall}
 use Rattle.joining.specs.Book.{bookRefusal, bookAfter, mapAt}
 use Rattle.joining.specs.Ends.{serverAfter, published, answerTo, clientAfter, accepted}
 use Rattle.joining.specs.Joining.{Took, NoGap, highest}
-use Rattle.joining.specs.Logs.Log.{empty, _▷_}
-use Rattle.joining.specs.Logs.{Log, _⧺_, Among}
+use Rattle.base.specs.Logs.Log.{empty, _▷_}
+use Rattle.base.specs.Logs.{Log, _⧺_, Among}
 use Rattle.joining_witness.specs.Session.{clip7, cut, new, setting, firstRequest, opens, firstStart}
 use Rattle.messages.specs.Fields.{bytesOf, kvpub, kvsync, kthxbai}
 use Rattle.names.specs.Keys.{under}

@@ -7,8 +7,8 @@ use Rattle.joining.specs.Book.ServerStart.{begin}
 use Rattle.joining.specs.Book.{ServerStart}
 use Rattle.joining.specs.Ends.ClientStart.{wait}
 use Rattle.joining.specs.Ends.{ClientStart}
-use Rattle.joining.specs.Logs.Log.{empty, _▷_}
-use Rattle.joining.specs.Logs.{Log, _⧺_}
+use Rattle.base.specs.Logs.Log.{empty, _▷_}
+use Rattle.base.specs.Logs.{Log, _⧺_}
 use Rattle.messages.specs.Fields.{bytesOf, kvset as update, kvpub, kvsync, kthxbai, hugz, icanhaz as question, withIdentity}
 use Rattle.server_plan.specs.Calls.Call.{kvset, tick, icanhaz}
 use Rattle.server_plan.specs.Calls.{Call as ServerCall}

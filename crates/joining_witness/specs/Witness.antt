@@ -12,8 +12,8 @@ use Rattle.client_plan.specs.Calls.{Call as ClientCall}
 use Rattle.joining.specs.Book.{bookAfter, mapOf, mapAt}
 use Rattle.joining.specs.Ends.{ClientStart, serverRefusal, serverBytes, serverAfter, published, clientBytes, clientAfter}
 use Rattle.joining.specs.Joining.{AllBetween, Joined, joinedAt, Follows}
-use Rattle.joining.specs.Logs.Log.{empty, _▷_}
-use Rattle.joining.specs.Logs.{Log}
+use Rattle.base.specs.Logs.Log.{empty, _▷_}
+use Rattle.base.specs.Logs.{Log}
 use Rattle.joining.specs.Readings.{kvpubNumbers}
 use Rattle.joining_witness.specs.Kinds.{serverKinds, clientKinds}
 use Rattle.joining_witness.specs.Session.{undo7, undo70, cut, new, firstIdentity, firstRequest, kvpub1, kvpub2, kvpub3, kvpub4, beating, opens, firstSet, opening, asked, calls, firstStart, firstWaits, firstJoins, firstFollows, firstCalls, secondStart, secondCalls, thirdStart, thirdCalls, fourthStart, fourthCalls}

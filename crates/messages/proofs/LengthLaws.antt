@@ -16,10 +16,10 @@ use Rattle.messages.proofs.WriteLaws.{bytes-length}
 use Rattle.messages.specs.Fields.{bytesOf, messageLength, kvpub, kvsync, kthxbai, hugz, identityFrame, withIdentity}
 
 -- a frame is at most so long
-short-frame : (n most : ℕ) → n ≤ most → most ≤ 255 → frameLength n ≤ most + 2
+pub short-frame : (n most : ℕ) → n ≤ most → most ≤ 255 → frameLength n ≤ most + 2
 short-frame n most h k = rw (le-leb n 255 (omega arith)) (omega arith)
 
-value-frame : (n : ℕ) → n ≤ 256 → frameLength n ≤ 265
+pub value-frame : (n : ℕ) → n ≤ 256 → frameLength n ≤ 265
 value-frame n h = go (leb n 255) refl
   where
     go : (t : Bool) → leb n 255 ≡ t → cond t (n + 2) (n + 9) ≤ 265
