@@ -1,6 +1,6 @@
-/* The functions of chp.h are static inline, so another language cannot link to them. Here each of them gets an external name, and
- * the compiler's view of the structs and the header's constants stand in a table. All calls of the comparison and of the measurement go
- * through here, so the header is tested along with the archive. */
+/* The functions of chp.h are static inline, so another language cannot link to them. Here each of them gets an external name. A table
+ * has the compiler's view of the structs, and the header's constants. All calls of the comparison and of the measurement go through
+ * here, so the header is tested along with the archive. */
 
 #include <stddef.h>
 #include <stdint.h>
@@ -136,7 +136,39 @@ chp_answer shim_by_value_client_lookup(const chp_client *c, const uint8_t *key, 
     return chp_by_value_client_lookup(*c, chp_in(key), key_len, chp_out(out), out_len);
 }
 
+/* The rows of a state. */
+
+int shim_server_row(const chp_server *s, size_t i, chp_row *row)
+{
+    return chp_server_row(s, i, row);
+}
+
+int shim_client_row(const chp_client *c, size_t i, chp_row *row)
+{
+    return chp_client_row(c, i, row);
+}
+
 /* The functions on bytes. */
+
+chp_message shim_message_in(uint8_t *buffer, size_t room)
+{
+    return chp_message_in(buffer, room);
+}
+
+void shim_message_add(chp_message *m, const void *part, int64_t length, int more)
+{
+    chp_message_add(m, part, length, more);
+}
+
+int shim_next_frame(const uint8_t *bytes, size_t len, chp_frame *frame)
+{
+    return chp_next_frame(bytes, len, frame);
+}
+
+size_t shim_message_length(const uint8_t *bytes, size_t len)
+{
+    return chp_message_length(bytes, len);
+}
 
 chp_part shim_value(const uint8_t *msg, size_t msg_len)
 {
@@ -148,20 +180,22 @@ uint64_t shim_value_refusal(const uint8_t *msg, size_t msg_len)
     return chp_value_refusal(msg, msg_len);
 }
 
-chp_frame shim_frame_at(const uint8_t *msg, size_t msg_len, size_t at)
+int shim_is_key(const uint8_t *bytes, size_t len)
 {
-    return chp_frame_at(msg, msg_len, at);
+    return chp_is_key(bytes, len);
 }
 
-size_t shim_message_length(const uint8_t *bytes, size_t len)
+int shim_is_subtree(const uint8_t *bytes, size_t len)
 {
-    return chp_message_length(bytes, len);
+    return chp_is_subtree(bytes, len);
 }
 
-size_t shim_put_frame(uint8_t *out, size_t out_len, size_t at, int more, const uint8_t *body, size_t body_len)
+int shim_is_under(const uint8_t *subtree, size_t subtree_len, const uint8_t *key, size_t key_len)
 {
-    return chp_put_frame(out, out_len, at, more, body, body_len);
+    return chp_is_under(subtree, subtree_len, key, key_len);
 }
+
+/* Texts. */
 
 const char *shim_kind_text(uint64_t kind)
 {
@@ -173,7 +207,15 @@ const char *shim_refusal_text(uint64_t refusal)
     return chp_refusal_text(refusal);
 }
 
-/* The archive's own marks in both states. */
+/* The header's version: its three numbers and the number made of them; the archive's version; and the archive's own marks in both
+ * states. */
+
+const uint64_t shim_version[4] = { CHP_VERSION_MAJOR, CHP_VERSION_MINOR, CHP_VERSION_PATCH, CHP_VERSION };
+
+uint64_t shim_archive_version(void)
+{
+    return chp_archive_version();
+}
 
 int shim_layout_agrees(void)
 {
@@ -226,14 +268,25 @@ const shim_place shim_layout[] = {
     FIELD(chp_client, phase),
     FIELD(chp_client, number),
     FIELD(chp_client, clock),
-    SIZE(chp_part),
-    FIELD(chp_part, start),
-    FIELD(chp_part, length),
+    SIZE(chp_message),
+    FIELD(chp_message, bytes),
+    FIELD(chp_message, room),
+    FIELD(chp_message, length),
+    FIELD(chp_message, stage),
     SIZE(chp_frame),
     FIELD(chp_frame, start),
     FIELD(chp_frame, length),
     FIELD(chp_frame, more),
-    FIELD(chp_frame, whole),
+    SIZE(chp_part),
+    FIELD(chp_part, start),
+    FIELD(chp_part, length),
+    SIZE(chp_row),
+    FIELD(chp_row, key),
+    FIELD(chp_row, key_length),
+    FIELD(chp_row, value),
+    FIELD(chp_row, value_length),
+    FIELD(chp_row, number),
+    FIELD(chp_row, expiry),
     NUMBER(CHP_ROWS),
     NUMBER(CHP_KEY_MOST),
     NUMBER(CHP_VALUE_MOST),
@@ -247,6 +300,13 @@ const shim_place shim_layout[] = {
     NUMBER(CHP_HUGZ_LENGTH),
     NUMBER(CHP_ICANHAZ_MOST),
     NUMBER(CHP_SNAPSHOT_MOST),
+    NUMBER(CHP_KVSET_ROOM),
+    NUMBER(CHP_ICANHAZ_ROOM),
+    NUMBER(CHP_SNAPSHOT_ROOM),
+    NUMBER(CHP_SUBSCRIBER_ROOM),
+    NUMBER(CHP_OPEN),
+    NUMBER(CHP_WHOLE),
+    NUMBER(CHP_VOID),
     NUMBER(CHP_REFUSED),
     NUMBER(CHP_STARTED),
     NUMBER(CHP_APPLIED),

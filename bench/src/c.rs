@@ -52,11 +52,14 @@ pub struct Client {
     pub clock: u64,
 }
 
+/// A message that is built from parts in a buffer.
 #[repr(C)]
 #[derive(Clone, Copy, PartialEq, Eq, Debug)]
-pub struct Part {
-    pub start: u64,
+pub struct Message {
+    pub bytes: *mut u8,
+    pub room: usize,
     pub length: u64,
+    pub stage: u64,
 }
 
 #[repr(C)]
@@ -65,7 +68,25 @@ pub struct Frame {
     pub start: u64,
     pub length: u64,
     pub more: u64,
-    pub whole: u64,
+}
+
+#[repr(C)]
+#[derive(Clone, Copy, PartialEq, Eq, Debug)]
+pub struct Part {
+    pub start: u64,
+    pub length: u64,
+}
+
+/// A row, which points into the state.
+#[repr(C)]
+#[derive(Clone, Copy, PartialEq, Eq, Debug)]
+pub struct Row {
+    pub key: *const u8,
+    pub key_length: usize,
+    pub value: *const u8,
+    pub value_length: usize,
+    pub number: u64,
+    pub expiry: u64,
 }
 
 /// A state seen as bytes, which it may be made of and compared by.

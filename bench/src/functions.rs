@@ -1,6 +1,6 @@
 //! The functions of the C interface, reached through the shim.
 
-use crate::c::{Answer, Client, Frame, Part, Server};
+use crate::c::{Answer, Client, Frame, Message, Part, Row, Server};
 use std::ffi::{CStr, c_char, c_int};
 use std::sync::atomic::{AtomicU32, Ordering};
 
@@ -48,16 +48,24 @@ struct Place {
 }
 
 unsafe extern "C" {
+    fn shim_server_row(s: *const Server, i: usize, row: *mut Row) -> c_int;
+    fn shim_client_row(c: *const Client, i: usize, row: *mut Row) -> c_int;
+    fn shim_message_in(buffer: Out, room: usize) -> Message;
+    fn shim_message_add(m: *mut Message, part: In, length: i64, more: c_int);
+    fn shim_next_frame(bytes: In, len: usize, frame: *mut Frame) -> c_int;
+    fn shim_message_length(bytes: In, len: usize) -> usize;
     fn shim_value(msg: In, msg_len: usize) -> Part;
     fn shim_value_refusal(msg: In, msg_len: usize) -> u64;
-    fn shim_frame_at(msg: In, msg_len: usize, at: usize) -> Frame;
-    fn shim_message_length(bytes: In, len: usize) -> usize;
-    fn shim_put_frame(out: Out, out_len: usize, at: usize, more: c_int, body: In, body_len: usize) -> usize;
+    fn shim_is_key(bytes: In, len: usize) -> c_int;
+    fn shim_is_subtree(bytes: In, len: usize) -> c_int;
+    fn shim_is_under(subtree: In, subtree_len: usize, key: In, key_len: usize) -> c_int;
+    fn shim_archive_version() -> u64;
     fn shim_layout_agrees() -> c_int;
     fn shim_layout_server(s: *mut Server) -> Answer;
     fn shim_layout_client(c: *mut Client) -> Answer;
     fn shim_kind_text(kind: u64) -> *const c_char;
     fn shim_refusal_text(refusal: u64) -> *const c_char;
+    static shim_version: [u64; 4];
     static shim_layout: [Place; 0];
     static shim_layout_length: usize;
 }
@@ -128,6 +136,39 @@ impl Form {
     }
 }
 
+/// Whether there is such a row; it is then set.
+pub fn server_row(s: &Server, i: usize, row: &mut Row) -> i32 {
+    unsafe { shim_server_row(s, i, row) }
+}
+
+pub fn client_row(c: &Client, i: usize, row: &mut Row) -> i32 {
+    unsafe { shim_client_row(c, i, row) }
+}
+
+/// A message without parts in the buffer.
+pub fn message_in(buffer: &mut [u8]) -> Message {
+    unsafe { shim_message_in(start_of_out(buffer), buffer.len()) }
+}
+
+/// Adds a part to the message of this length and stage in the buffer, and gives the message. The
+/// part's length is that of the bytes, or negative.
+pub fn message_add(buffer: &mut [u8], built: (u64, u64), part: &[u8], length: i64, more: i32) -> Message {
+    assert!(length < 0 || length as usize == part.len());
+    let (bytes, room) = (start_of_out(buffer), buffer.len());
+    let mut message = Message { bytes, room, length: built.0, stage: built.1 };
+    unsafe { shim_message_add(&mut message, start_of(part), length, more) };
+    message
+}
+
+/// Whether there is a frame after this one; it is then set.
+pub fn next_frame(bytes: &[u8], frame: &mut Frame) -> i32 {
+    unsafe { shim_next_frame(start_of(bytes), bytes.len(), frame) }
+}
+
+pub fn message_length(bytes: &[u8]) -> usize {
+    unsafe { shim_message_length(start_of(bytes), bytes.len()) }
+}
+
 pub fn value(msg: &[u8]) -> Part {
     unsafe { shim_value(start_of(msg), msg.len()) }
 }
@@ -136,16 +177,26 @@ pub fn value_refusal(msg: &[u8]) -> u64 {
     unsafe { shim_value_refusal(start_of(msg), msg.len()) }
 }
 
-pub fn frame_at(msg: &[u8], at: usize) -> Frame {
-    unsafe { shim_frame_at(start_of(msg), msg.len(), at) }
+pub fn is_key(bytes: &[u8]) -> i32 {
+    unsafe { shim_is_key(start_of(bytes), bytes.len()) }
 }
 
-pub fn message_length(bytes: &[u8]) -> usize {
-    unsafe { shim_message_length(start_of(bytes), bytes.len()) }
+pub fn is_subtree(bytes: &[u8]) -> i32 {
+    unsafe { shim_is_subtree(start_of(bytes), bytes.len()) }
 }
 
-pub fn put_frame(out: &mut [u8], at: usize, more: i32, body: &[u8]) -> usize {
-    unsafe { shim_put_frame(start_of_out(out), out.len(), at, more, start_of(body), body.len()) }
+pub fn is_under(subtree: &[u8], key: &[u8]) -> i32 {
+    unsafe { shim_is_under(start_of(subtree), subtree.len(), start_of(key), key.len()) }
+}
+
+/// The header's version: major, minor, patch, and the number made of them.
+pub fn version() -> [u64; 4] {
+    // SAFETY: constant.
+    unsafe { shim_version }
+}
+
+pub fn archive_version() -> u64 {
+    unsafe { shim_archive_version() }
 }
 
 /// Whether the header finds the archive's marks where it has its fields.

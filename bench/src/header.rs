@@ -1,9 +1,10 @@
 //! Holds the header and the archive against what this program takes for granted: how the structs are
-//! laid out, the constants, and that each kind and each refusal has a text.
+//! laid out, the constants, the version, and that each kind and each refusal has a text.
 
-use crate::c::{self, Answer, Client, Frame, Part, Plain, Server, Table};
+use crate::c::{self, Answer, Client, Frame, Message, Part, Plain, Row, Server, Table};
 use crate::functions;
 use peer::answer::{Kind, Refusal};
+use peer::parts;
 use std::mem::offset_of;
 
 type Places = Vec<(String, u64)>;
@@ -25,8 +26,10 @@ fn layout() -> Places {
     places!(list, "chp_table", Table, keys, values, key_lengths, value_lengths, count);
     places!(list, "chp_server", Server, table, numbers, expiries, number, last_tick, last_published);
     places!(list, "chp_client", Client, table, subtree, subtree_length, phase, number, clock);
+    places!(list, "chp_message", Message, bytes, room, length, stage);
+    places!(list, "chp_frame", Frame, start, length, more);
     places!(list, "chp_part", Part, start, length);
-    places!(list, "chp_frame", Frame, start, length, more, whole);
+    places!(list, "chp_row", Row, key, key_length, value, value_length, number, expiry);
     list
 }
 
@@ -45,6 +48,13 @@ fn limits() -> Places {
         ("CHP_HUGZ_LENGTH", 22),
         ("CHP_ICANHAZ_MOST", c::ICANHAZ_MOST as u64),
         ("CHP_SNAPSHOT_MOST", c::SNAPSHOT_MOST as u64),
+        ("CHP_KVSET_ROOM", parts::KVSET_ROOM as u64),
+        ("CHP_ICANHAZ_ROOM", parts::ICANHAZ_ROOM as u64),
+        ("CHP_SNAPSHOT_ROOM", parts::SNAPSHOT_ROOM as u64),
+        ("CHP_SUBSCRIBER_ROOM", parts::SUBSCRIBER_ROOM as u64),
+        ("CHP_OPEN", parts::OPEN),
+        ("CHP_WHOLE", parts::WHOLE),
+        ("CHP_VOID", parts::VOID),
     ];
     list.map(|(name, number)| (name.to_string(), number)).to_vec()
 }
@@ -111,6 +121,16 @@ fn marks_are_right() -> bool {
     functions::layout_agrees() && server && client && answers == [answer(11), answer(11)]
 }
 
+/// The version's number is made of its three parts, and the archive was built as it.
+fn version_is_right() -> bool {
+    let [major, minor, patch, all] = functions::version();
+    let archive = functions::archive_version();
+    let right = minor < 1000 && patch < 1000 && all == major * 1_000_000 + minor * 1000 + patch && archive == all;
+    let judged = if right { "the same" } else { "NOT the same" };
+    println!("header: version {major}.{minor}.{patch} ({all}), archive {archive}, {judged}");
+    right
+}
+
 /// Each number up to the last has a text of its own, and others are unknown.
 fn texts_are_right(text: fn(u64) -> String, last: u64) -> bool {
     let mut texts: Vec<String> = (0..=last + 1).map(text).collect();
@@ -136,9 +156,10 @@ pub fn check() -> bool {
         ours.len(),
         if same { "all the same" } else { "NOT the same" }
     );
+    let version = version_is_right();
     let marks = marks_are_right();
     println!("header: the archive's marks {}", if marks { "in place" } else { "NOT in place" });
     let texts = texts_are_right(functions::kind_text, 13) && texts_are_right(functions::refusal_text, 16);
     println!("header: texts {}", if texts { "in order" } else { "NOT in order" });
-    same && marks && texts
+    same && version && marks && texts
 }

@@ -12,14 +12,17 @@ mod random;
 use functions::{BY_VALUE, LENT};
 use std::process::ExitCode;
 
-const USAGE: &str = "usage: bench header                            structs, constants and texts of the header
+const USAGE: &str = "usage: bench header                            structs, constants, version and texts of the header
        bench compare [CALLS [SEED]]            calls in step; all that can come up must come up
        bench compare-by-value [CALLS [SEED]]   the same with the library's calls that take states by value
-       bench sample [CALLS [SEED]]             as compare, but not all must come up
+       bench sample [CALLS [SEED]]             as compare, but at random alone, and not all must come up
        bench measure                           nanoseconds per call
        bench instructions                      instructions per call, by valgrind
        bench count CASE KEYS WHO CALLS         one case, for callgrind; WHO is library, peer, library-by-value
-                                               or peer-by-value";
+                                               or peer-by-value
+
+CALLS counts the random calls on states. The calls over all lengths and places, and those on parts, frames,
+rows and names, come with them.";
 
 fn number(arguments: &[String], at: usize, otherwise: u64) -> Option<u64> {
     arguments.get(at).map_or(Some(otherwise), |text| text.parse().ok())

@@ -81,7 +81,7 @@ pub fn value(message: &[u8]) -> Result<&[u8], Refusal> {
 }
 
 /// Bytes that a frame with a body of this length takes when written.
-pub fn frame_length(body: usize) -> usize {
+pub const fn frame_length(body: usize) -> usize {
     if body <= 255 { 2 + body } else { 9 + body }
 }
 
@@ -90,7 +90,7 @@ pub fn message_size(bodies: &[&[u8]]) -> usize {
     bodies.iter().map(|body| frame_length(body.len())).sum()
 }
 
-/// Writes a frame from a place on and gives the place behind it. Where it does not fit, nothing is
+/// Writes a frame from a place on and gives the place after it. Where it does not fit, nothing is
 /// written and the place itself comes back.
 pub fn put_frame(out: &mut [u8], at: usize, more: bool, body: &[u8]) -> usize {
     let Some(room) = out.get_mut(at..) else {

@@ -13,6 +13,7 @@ pub mod client;
 pub mod frames;
 pub mod messages;
 pub mod names;
+pub mod parts;
 pub mod properties;
 pub mod rows;
 pub mod server;

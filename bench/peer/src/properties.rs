@@ -21,7 +21,7 @@ pub fn read_ttl(properties: &[u8]) -> Result<Option<u64>, Refusal> {
     Ok(ttl)
 }
 
-/// What lies before and behind the first such byte.
+/// What comes before and after the first such byte.
 fn cut(bytes: &[u8], mark: u8) -> Result<(&[u8], &[u8]), Refusal> {
     let at = bytes.iter().position(|byte| *byte == mark).ok_or(Refusal::Properties)?;
     Ok((&bytes[..at], &bytes[at + 1..]))

@@ -52,6 +52,13 @@ impl<X: Copy> Table<X> {
         &self.rows[..self.count]
     }
 
+    /// The row at a place, of an ill-formed table too: none from the count on, and none whose lengths do
+    /// not fit its cells.
+    pub fn row(&self, i: usize) -> Option<&Row<X>> {
+        let row = self.rows.get(i)?;
+        (i < self.count && row.key_length <= KEY_ROOM && row.value_length <= VALUE_ROOM).then_some(row)
+    }
+
     /// At most 64 rows, each well-formed, with strictly rising keys.
     pub fn is_well_formed(&self) -> bool {
         self.count <= MAX_ROWS
@@ -59,7 +66,7 @@ impl<X: Copy> Table<X> {
             && self.held().windows(2).all(|pair| pair[0].key() < pair[1].key())
     }
 
-    /// The place of the key's row, or else the place where it would stand.
+    /// The place of the key's row, or else the place where it would be.
     pub fn find(&self, key: &[u8]) -> Result<usize, usize> {
         self.held().binary_search_by(|row| row.key().cmp(key))
     }

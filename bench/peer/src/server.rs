@@ -138,7 +138,7 @@ fn try_tick(s: &mut Server, tick: u64, out: &mut [u8]) -> Result<Answer, Refusal
     Ok(Answer::accepted(Kind::Nothing, s.number, 0))
 }
 
-/// The due row with the least expiry, the least key among equals. Rows stand in key order, so a
+/// The due row with the least expiry, the least key among equals. Rows are in key order, so a
 /// later row takes the place of an earlier one with a strictly lesser expiry alone.
 fn first_due(s: &Server, tick: u64) -> Option<Row<LastSet>> {
     let mut found: Option<(u64, &Row<LastSet>)> = None;

@@ -1,22 +1,29 @@
-//! The entries that take bytes alone, on both sides.
+//! The entries that take bytes alone, on both sides, but for those of `parts.rs`.
 
 use crate::c;
 use crate::compare::counts::{Entry, GIVEN};
-use crate::compare::lockstep::{GUARD, Lockstep, exact, hex};
+use crate::compare::inputs;
+use crate::compare::lockstep::{Lockstep, exact, hex};
 use crate::functions;
-use peer::frames;
+use peer::{frames, names};
 
 impl Lockstep {
     /// Entries without an answer record count as given, or as refused with this number.
-    fn record_given(&mut self, entry: Entry, refusal: Option<u64>, problem: Option<String>, bytes: &[u8]) {
+    pub(super) fn record_given(
+        &mut self,
+        entry: Entry,
+        refusal: Option<u64>,
+        problem: Option<String>,
+        call: impl FnOnce() -> String,
+    ) -> bool {
         let kind = if refusal.is_none() { GIVEN } else { 0 };
         let answer = c::Answer { kind, refusal: refusal.unwrap_or(0), number: 0, written: 0 };
-        self.record(entry, answer, problem, || format!("message {}", hex(bytes)));
+        self.record(entry, answer, problem, call)
     }
 
-    /// Both value entries. Where the empty part of a refused message lies is free, as long as it lies
-    /// in the message.
-    pub fn value(&mut self, message: &[u8]) {
+    /// Both value entries, as one answer in which the value counts as written. Where the empty part of
+    /// a refused message lies is free, as long as it lies in the message.
+    pub fn value(&mut self, message: &[u8]) -> c::Answer {
         let message = &*exact(message);
         let (part, refusal) = (functions::value(message), functions::value_refusal(message));
         let expected = frames::value(message);
@@ -28,23 +35,8 @@ impl Lockstep {
         let same = part.length == value.len() as u64 && inside && starts_right;
         let problem = (!same || refusal != expected_refusal.unwrap_or(0))
             .then(|| format!("library {part:?} and {refusal}, peer {} bytes and {expected_refusal:?}", value.len()));
-        self.record_given(Entry::Value, expected_refusal, problem, message);
-    }
-
-    pub fn frame_at(&mut self, message: &[u8], at: usize) -> c::Frame {
-        let message = &*exact(message);
-        let lib = functions::frame_at(message, at);
-        let expected = frames::frame_at(message, at);
-        let peer = match expected {
-            Some(frame) => {
-                let (start, length) = (frame.start as u64, frame.length as u64);
-                c::Frame { start, length, more: u64::from(frame.more), whole: 1 }
-            }
-            None => c::Frame { start: 0, length: 0, more: 0, whole: 0 },
-        };
-        let problem = (lib != peer).then(|| format!("at {at}: library {lib:?}, peer {peer:?}"));
-        self.record_given(Entry::FrameAt, expected.is_none().then_some(0), problem, message);
-        lib
+        self.record_given(Entry::Value, expected_refusal, problem, || format!("message {}", hex(message)));
+        c::Answer { kind: if refusal == 0 { GIVEN } else { 0 }, refusal, number: 0, written: part.length }
     }
 
     pub fn message_length(&mut self, bytes: &[u8]) -> usize {
@@ -52,24 +44,32 @@ impl Lockstep {
         let lib = functions::message_length(bytes);
         let expected = frames::message_length(bytes);
         let problem = (lib != expected.unwrap_or(0)).then(|| format!("library {lib}, peer {expected:?}"));
-        self.record_given(Entry::MessageLength, expected.is_none().then_some(0), problem, bytes);
+        let call = || format!("bytes {}", hex(bytes));
+        self.record_given(Entry::MessageLength, expected.is_none().then_some(0), problem, call);
         lib
     }
 
-    /// Writes a frame to an output of this length, and gives all of the library's output.
-    pub fn put_frame(&mut self, length: usize, at: usize, more: i32, body: &[u8]) -> Vec<u8> {
-        let body = &*exact(body);
-        let lent = self.lend(length);
-        let lib = functions::put_frame(&mut self.lib_out[..length], at, more, body);
-        let peer = frames::put_frame(&mut self.peer_out[..length], at, more != 0, body);
-        let all = length + GUARD;
-        let before = at.min(all);
-        let noise = &self.noise[lent.salt..];
-        let kept = |range: std::ops::Range<usize>| self.lib_out[range.clone()] == noise[range];
-        let same = lib == peer && self.lib_out[..all] == self.peer_out[..all];
-        let problem = (!same || !kept(0..before) || !kept(lib.clamp(before, all)..all))
-            .then(|| format!("library {lib}, peer {peer}, output {length}, at {at}, more {more}"));
-        self.record_given(Entry::PutFrame, (peer == at).then_some(0), problem, body);
-        self.lib_out[..length].to_vec()
+    pub fn is_key(&mut self, bytes: &[u8]) {
+        let bytes = &*exact(bytes);
+        inputs::note_key(&mut self.counts, bytes);
+        self.yes_or_no(Entry::IsKey, functions::is_key(bytes), names::is_key(bytes), || hex(bytes));
+    }
+
+    pub fn is_subtree(&mut self, bytes: &[u8]) {
+        let bytes = &*exact(bytes);
+        inputs::note_subtree(&mut self.counts, bytes);
+        self.yes_or_no(Entry::IsSubtree, functions::is_subtree(bytes), names::is_subtree(bytes), || hex(bytes));
+    }
+
+    pub fn is_under(&mut self, subtree: &[u8], key: &[u8]) {
+        let (subtree, key) = (&*exact(subtree), &*exact(key));
+        inputs::note_under(&mut self.counts, subtree, key);
+        let call = || format!("subtree {} key {}", hex(subtree), hex(key));
+        self.yes_or_no(Entry::IsUnder, functions::is_under(subtree, key), names::is_under(subtree, key), call);
+    }
+
+    fn yes_or_no(&mut self, entry: Entry, lib: i32, peer: bool, call: impl FnOnce() -> String) {
+        let problem = (lib != i32::from(peer)).then(|| format!("library {lib}, peer {peer}"));
+        self.record_given(entry, (!peer).then_some(0), problem, call);
     }
 }

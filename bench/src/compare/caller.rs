@@ -18,6 +18,8 @@ pub struct Caller {
     /// The keys that most updates are about.
     pub pool: Vec<Vec<u8>>,
     pub mix: Mix,
+    /// Whose turn it is among the ways to make a server or a client ill-formed or odd.
+    pub turns: [usize; 4],
 }
 
 impl Caller {
@@ -26,7 +28,7 @@ impl Caller {
         self.pool[at].clone()
     }
 
-    fn some_key(&mut self) -> Vec<u8> {
+    pub(super) fn some_key(&mut self) -> Vec<u8> {
         if self.random.percent(95) { self.pool_key() } else { names::key(&mut self.random) }
     }
 
@@ -92,14 +94,14 @@ impl Caller {
     }
 
     /// A number for a KVPUB or KTHXBAI, mostly near the client's.
-    fn number_near(&mut self, number: u64) -> u64 {
+    pub(super) fn number_near(&mut self, number: u64) -> u64 {
         let any = self.random.next() >> 1;
         let far = if self.random.percent(3) { self.random.pick(&[NUMBER_MAX, NUMBER_MAX - 1, any]) } else { number };
         let (next, second) = (number.saturating_add(1), number.saturating_add(2));
         self.random.pick(&[0, number.saturating_sub(1), number, next, next, next, second, far])
     }
 
-    fn client_key(&mut self, pair: &ClientPair) -> Vec<u8> {
+    pub(super) fn client_key(&mut self, pair: &ClientPair) -> Vec<u8> {
         if self.random.percent(50) {
             return self.some_key();
         }
@@ -178,7 +180,7 @@ impl Caller {
         (answer.kind != 0).then(|| self.run.written(answer))
     }
 
-    /// Asks at, just before and just behind the end of the silence, and elsewhere.
+    /// Asks at, just before and just after the end of the silence, and elsewhere.
     pub fn ask(&mut self, pair: &mut ClientPair, tick: u64) -> c::Answer {
         let clock = pair.lib.clock;
         let bad = self.bad_tick(clock);
@@ -207,25 +209,55 @@ impl Caller {
             wire::damage(&mut self.random, &mut message);
         }
         self.run.value(&message);
-        let length = message.len();
-        let any = self.random.below(length + 2);
-        let at =
-            self.random.pick(&[0, any, any, length, length.saturating_sub(1), length + 1, usize::MAX, usize::MAX - 8]);
-        self.run.frame_at(&message, at);
         self.run.message_length(&message);
-        self.put_frame();
+        self.run.walk(&message);
     }
 
-    /// Writes a frame at some place of an output with room for it, or just not.
-    fn put_frame(&mut self) {
-        let length = self.random.pick(&[0, 1, 8, 254, 255, 256, 257, 300]);
-        let body = self.random.bytes(length);
-        let needed = peer::frames::frame_length(length);
-        let at = self.random.pick(&[0, 0, 1, 30, 300]);
-        let output =
-            (at + needed + self.random.pick(&[0, 0, 1, 50])).saturating_sub(self.random.pick(&[0, 0, 1, needed, at]));
-        let at = if self.random.percent(5) { self.random.pick(&[output + 1, usize::MAX, usize::MAX - 8]) } else { at };
-        let more = self.random.pick(&[0, 0, 1, 1, 2, -1, 256, i32::MIN]);
-        self.run.put_frame(output, at, more, &body);
+    /// Asks about names, good and bad, and whether one is under another.
+    pub fn names(&mut self) {
+        for _ in 0..4 {
+            let name = self.some_name();
+            self.run.is_key(&name);
+            self.run.is_subtree(&name);
+            let other = match self.random.below(8) {
+                0 => self.some_name(),
+                1 => Vec::new(),
+                2 => name.clone(),
+                3 => [&name[..], b"x"].concat(),
+                _ => self.beginning(&name),
+            };
+            self.run.is_under(&other, &name);
+        }
+    }
+
+    fn some_name(&mut self) -> Vec<u8> {
+        let random = &mut self.random;
+        match random.below(8) {
+            0 | 1 => names::key(random),
+            2 => names::bad_key(random),
+            3 => names::subtree(random),
+            4 => names::bad_subtree(random),
+            5 => {
+                let subtree = names::subtree(random);
+                names::key_near(random, &subtree)
+            }
+            6 => [names::key(random), b"/".to_vec()].concat(),
+            _ => {
+                let length = random.between(0, 200);
+                random.bytes(length)
+            }
+        }
+    }
+
+    /// A beginning of a name, mostly as it is, or else with one bit changed, in its last byte or anywhere.
+    fn beginning(&mut self, name: &[u8]) -> Vec<u8> {
+        let random = &mut self.random;
+        let mut part = name[..random.below(name.len() + 1)].to_vec();
+        if !part.is_empty() && random.percent(50) {
+            let (last, any) = (part.len() - 1, random.below(part.len()));
+            let at = random.pick(&[last, last, any]);
+            part[at] ^= 1 << random.below(8);
+        }
+        part
     }
 }

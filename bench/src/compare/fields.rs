@@ -167,12 +167,12 @@ pub fn properties(random: &mut Random, ttls: usize) -> Vec<u8> {
 /// Well-formed properties with a ttl, mostly a short one.
 fn with_ttl(random: &mut Random) -> Vec<u8> {
     let ttl = random.pick(&["0", "0", "1", "1", "2", "3", "00002", "00000", "10", "86400", "86399"]);
-    let (before, behind) = random.pick(&[("", ""), ("", ""), ("a=b\n", ""), ("", "z=\n"), ("tt=1\n", "ttl2=x\n")]);
-    format!("{before}ttl={ttl}\n{behind}").into()
+    let (before, after) = random.pick(&[("", ""), ("", ""), ("a=b\n", ""), ("", "z=\n"), ("tt=1\n", "ttl2=x\n")]);
+    format!("{before}ttl={ttl}\n{after}").into()
 }
 
 /// Well-formed lines of this length in all, which is at least three.
-fn of_length(random: &mut Random, length: usize) -> Vec<u8> {
+pub fn of_length(random: &mut Random, length: usize) -> Vec<u8> {
     let mut bytes = random.bytes(length);
     for byte in &mut bytes {
         if matches!(*byte, 0 | b'\n') {

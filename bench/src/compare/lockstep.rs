@@ -1,7 +1,7 @@
 //! Makes each call twice, through the C interface and at the peer, and compares what comes back:
 //! the answer, every byte of the output and the state.
 
-use crate::c::{self, Plain, SNAPSHOT_MOST};
+use crate::c::{self, Plain};
 use crate::compare::counts::{Counts, Entry};
 use crate::compare::{inputs, meaning};
 use crate::functions::Form;
@@ -36,35 +36,41 @@ impl ClientPair {
     }
 }
 
-/// Bytes behind each output that no call may touch.
+/// Bytes after each output, and around each buffer, that no call may touch.
 pub(super) const GUARD: usize = 64;
+/// The longest output or buffer.
+pub(super) const MOST_ROOM: usize = 70_000;
 const SALTS: usize = 4096;
 /// Differences after which a run stops.
 const ENOUGH: u64 = 20;
 
 /// An output lent for one call: its length, and where in the noise its contents begin.
 #[derive(Clone, Copy)]
-pub(super) struct Lent {
-    pub length: usize,
-    pub salt: usize,
+struct Lent {
+    length: usize,
+    salt: usize,
 }
 
 pub struct Lockstep {
     pub(super) form: &'static Form,
     pub random: Random,
     pub counts: Counts,
+    /// All calls; those that take a state and give an answer are counted again.
     pub calls: u64,
+    pub calls_on_states: u64,
     pub differences: u64,
+    /// Outputs are long enough, always.
+    pub roomy: bool,
     /// Clients that had exactly the server's rows at the end of an undisturbed session.
     pub followers: u64,
-    pub(super) noise: Vec<u8>,
-    pub(super) lib_out: Vec<u8>,
-    pub(super) peer_out: Vec<u8>,
+    noise: Vec<u8>,
+    lib_out: Vec<u8>,
+    peer_out: Vec<u8>,
     server_before: Box<c::Server>,
     client_before: Box<c::Client>,
 }
 
-fn as_c(answer: Answer) -> c::Answer {
+pub(super) fn as_c(answer: Answer) -> c::Answer {
     let refusal = answer.refusal.map_or(0, |refusal| refusal as u64);
     c::Answer { kind: answer.kind as u64, refusal, number: answer.number, written: answer.written as u64 }
 }
@@ -74,7 +80,7 @@ fn answer_problem(lib: c::Answer, peer: Answer) -> Option<String> {
     (lib != peer).then(|| format!("library {lib:?}, peer {peer:?}"))
 }
 
-/// A copy with nothing behind it, so that valgrind sees a read past the end.
+/// A copy with nothing after it, so that valgrind sees a read past the end.
 pub(super) fn exact(bytes: &[u8]) -> Box<[u8]> {
     bytes.into()
 }
@@ -86,14 +92,16 @@ pub(super) fn hex(bytes: &[u8]) -> String {
 impl Lockstep {
     pub fn new(form: &'static Form, seed: u64) -> Lockstep {
         let mut random = Random::new(seed);
-        let room = SNAPSHOT_MOST + 1000 + GUARD;
-        let noise = random.bytes(room + SALTS);
+        let room = MOST_ROOM + GUARD;
+        let noise = random.bytes(GUARD + room + SALTS);
         Lockstep {
             form,
             random,
             counts: Counts::default(),
             calls: 0,
+            calls_on_states: 0,
             differences: 0,
+            roomy: false,
             followers: 0,
             noise,
             lib_out: vec![0; room],
@@ -116,7 +124,7 @@ impl Lockstep {
     /// nothing, or more. What is needed is asked of the peer.
     pub(super) fn choose_length(&mut self, most: usize, ask: impl FnOnce(&mut [u8]) -> Answer) -> usize {
         let choice = self.random.below(100);
-        if choice < 60 {
+        if choice < 60 || self.roomy {
             return most;
         }
         if choice < 64 {
@@ -139,8 +147,14 @@ impl Lockstep {
         }
     }
 
+    /// So many bytes of noise.
+    pub(super) fn some_noise(&mut self, length: usize) -> Box<[u8]> {
+        let salt = self.random.below(SALTS);
+        self.noise[salt..salt + length].into()
+    }
+
     /// Fills the outputs of both sides with the same noise.
-    pub(super) fn lend(&mut self, length: usize) -> Lent {
+    fn lend(&mut self, length: usize) -> Lent {
         let salt = self.random.below(SALTS);
         let noise = &self.noise[salt..salt + length + GUARD];
         self.lib_out[..noise.len()].copy_from_slice(noise);
@@ -148,7 +162,7 @@ impl Lockstep {
         Lent { length, salt }
     }
 
-    /// The outputs are the same, and as they were behind the bytes written; a refused call wrote
+    /// The outputs are the same, and as they were after the bytes written; a refused call wrote
     /// none.
     fn output_problem(&self, lent: Lent, answer: c::Answer) -> Option<String> {
         let all = lent.length + GUARD;
@@ -158,7 +172,7 @@ impl Lockstep {
             return Some("more bytes written than lent".to_string());
         }
         if self.lib_out[written..all] != noise[written..all] {
-            return Some("output changed behind the bytes written".to_string());
+            return Some("output changed after the bytes written".to_string());
         }
         let (lib, peer) = (&self.lib_out[..all], &self.peer_out[..all]);
         (lib != peer).then(|| format!("outputs {} and {}", hex(&lib[..written]), hex(&peer[..written])))
@@ -172,6 +186,7 @@ impl Lockstep {
         call: impl FnOnce() -> String,
     ) -> bool {
         self.calls += 1;
+        self.calls_on_states += u64::from(entry.is_call_on_state());
         inputs::note_written(&mut self.counts, answer.written);
         if answer.kind == 0 {
             self.counts.refusal(entry, answer.refusal);

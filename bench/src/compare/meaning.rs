@@ -1,5 +1,5 @@
 //! States of the library seen as states of the peer, and where the two differ in meaning. Bytes
-//! behind a length and rows from the count on mean nothing.
+//! after a length and rows from the count on mean nothing.
 
 use crate::c::{self, KEY_CELL, NEVER, ROWS, VALUE_CELL};
 use peer::client::{Client, Phase};

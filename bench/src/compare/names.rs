@@ -29,7 +29,7 @@ pub fn longest_keys(random: &mut Random) -> Vec<Vec<u8>> {
 }
 
 /// A subtree of 96 bytes, under which no key fits.
-fn subtree_of_96() -> Vec<u8> {
+pub fn subtree_of_96() -> Vec<u8> {
     [b"/", &[b't'; 94][..], b"/"].concat()
 }
 

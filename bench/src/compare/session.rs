@@ -2,11 +2,14 @@
 
 use crate::c::{self, Plain};
 use crate::compare::caller::Caller;
+use crate::compare::counts::Topic;
 use crate::compare::fields::Mix;
 use crate::compare::lockstep::{ClientPair, ServerPair};
+use crate::compare::parts::Part;
 use crate::compare::{meaning, names, plant, wire};
 use peer::TICK_MAX;
 use peer::client::Phase;
+use peer::parts::{ICANHAZ_ROOM, KVSET_ROOM, SNAPSHOT_ROOM, SUBSCRIBER_ROOM};
 use std::collections::VecDeque;
 
 /// A client, what it has yet to read of a snapshot, and how far it has read what was published.
@@ -23,7 +26,7 @@ pub struct Session<'a> {
     published: Vec<Vec<u8>>,
     tick: u64,
     /// Nothing is lost, forged or damaged on the way to the clients, so that their maps can be
-    /// held against the server's in the end.
+    /// held against the server's in the end. All that is sent is split into parts and built again.
     clean: bool,
 }
 
@@ -74,7 +77,7 @@ impl<'a> Session<'a> {
     /// One action: one call or a few.
     pub fn step(&mut self) {
         let desk = self.caller.random.below(self.desks.len());
-        match self.caller.random.below(100) {
+        match self.caller.random.below(110) {
             0..24 => self.kvset(true),
             24..33 => self.kvset(false),
             33..42 => self.server_tick(),
@@ -93,7 +96,13 @@ impl<'a> Session<'a> {
             96 => self.full_client(),
             97 if self.caller.random.percent(10) => self.longest_snapshot(),
             97 => self.full_server(),
-            _ => self.caller.odd_state(),
+            98..100 => self.caller.odd_state(),
+            100..102 => self.caller.built_messages(),
+            102..104 => self.caller.any_parts(),
+            104 => self.caller.odd_messages(),
+            105..107 => self.caller.walks(),
+            107..109 => self.rows(desk),
+            _ => self.caller.names(),
         }
     }
 
@@ -143,7 +152,9 @@ impl<'a> Session<'a> {
             return;
         };
         let mut message = message.clone();
-        if choice >= 97 {
+        if self.clean {
+            message = caller.run.carry(&message, SUBSCRIBER_ROOM);
+        } else if choice >= 97 {
             wire::damage(&mut caller.random, &mut message);
         }
         let answer = caller.run.subscriber(&mut desk.pair, &message, self.tick);
@@ -204,9 +215,16 @@ impl<'a> Session<'a> {
         };
         if self.caller.random.percent(50) {
             let tick = self.later();
+            let message = self.caller.run.carry(&message, KVSET_ROOM);
             let answer = self.caller.run.kvset(&mut self.server, &message, tick);
             self.publish(answer);
         }
+    }
+
+    /// Looks at all rows.
+    fn rows(&mut self, desk: usize) {
+        self.caller.run.server_rows(&self.server);
+        self.caller.run.client_rows(&self.desks[desk].pair);
     }
 
     /// Noise where bytes mean nothing, on the library's side alone.
@@ -238,6 +256,7 @@ impl<'a> Session<'a> {
             self.caller.forged_snapshot(&mut pair);
             self.caller.lookup(&mut pair);
         }
+        self.caller.run.client_rows(&pair);
     }
 
     /// Calls on a server with as many rows as it can hold, or nearly.
@@ -252,6 +271,7 @@ impl<'a> Session<'a> {
             self.caller.run.tick(&mut pair, tick);
             self.caller.request(&mut pair);
         }
+        self.caller.run.server_rows(&pair);
     }
 
     /// A snapshot as long as can be.
@@ -284,7 +304,8 @@ impl<'a> Session<'a> {
             self.caller.run.snapshot(&mut desk.pair, &message);
         }
         for message in &self.published[desk.next..] {
-            self.caller.run.subscriber(&mut desk.pair, message, self.tick);
+            let message = self.caller.run.carry(message, SUBSCRIBER_ROOM);
+            self.caller.run.subscriber(&mut desk.pair, &message, self.tick);
         }
     }
 }
@@ -312,27 +333,23 @@ fn start_server(caller: &mut Caller) -> ServerPair {
     pair
 }
 
-/// Lets the client write its request and the server answer it, and cuts the answer into messages
-/// without the identity frame.
+/// Lets the client write its request and the server answer it. The router puts the identity in front
+/// of the request, and takes it off each message of the answer.
 fn ask_for_snapshot(caller: &mut Caller, server: &mut ServerPair, client: &mut ClientPair) -> VecDeque<Vec<u8>> {
-    let mut messages = VecDeque::new();
     let answer = caller.run.write_icanhaz(client);
     if answer.kind == 0 {
-        return messages;
+        return VecDeque::new();
     }
     let length = caller.random.pick(&[1, 5, 255]);
-    let identity = caller.random.bytes(length);
+    let mut parts = vec![Part::of(caller.random.bytes(length), 1)];
     let written = caller.run.written(answer);
-    let mut request = caller.run.put_frame(2 + identity.len(), 0, 1, &identity);
-    request.extend(written);
+    parts.extend(caller.run.messages_in(&written).concat());
+    let request = caller.run.build(ICANHAZ_ROOM, &parts).bytes().to_vec();
     let answer = caller.run.icanhaz(server, &request);
     let bytes = caller.run.written(answer);
-    let mut rest = &bytes[..];
-    while !rest.is_empty() {
-        let (message, behind) = rest.split_at(caller.run.message_length(rest));
-        let frame = caller.run.frame_at(message, 0);
-        messages.push_back(message[(frame.start + frame.length) as usize..].to_vec());
-        rest = behind;
+    let messages = caller.run.messages_in(&bytes);
+    if messages.len() > 1 {
+        caller.run.counts.met(Topic::Walk, "walk over a snapshot");
     }
-    messages
+    messages.iter().map(|parts| caller.run.build(SNAPSHOT_ROOM, &parts[1..]).bytes().to_vec()).collect()
 }

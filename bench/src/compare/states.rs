@@ -1,8 +1,8 @@
 //! Calls at every entry on states that are ill-formed in one way, or odd and well-formed.
 
-use crate::c;
+use crate::c::{self, Plain};
 use crate::compare::caller::Caller;
-use crate::compare::counts::Entry;
+use crate::compare::counts::{Entry, Sort};
 use crate::compare::lockstep::{ClientPair, ServerPair};
 use crate::compare::ways::{CLIENT_WAYS, ODD_CLIENTS, ODD_SERVERS, SERVER_WAYS, TABLE_WAYS};
 use crate::compare::{names, plant};
@@ -11,14 +11,21 @@ use peer::TICK_MAX;
 const ILL_FORMED: u64 = 16;
 
 impl Caller {
-    /// Makes such a state and calls every entry on it.
+    /// Makes such a state, calls every entry on it and looks at its rows.
     pub fn odd_state(&mut self) {
-        match self.random.below(8) {
+        match self.random.below(9) {
             0..3 => self.ill_formed_server(),
             3..6 => self.ill_formed_client(),
             6 => self.odd_server(),
-            _ => self.odd_client(),
+            7 => self.odd_client(),
+            _ => self.rows_of_noise(),
         }
+    }
+
+    /// The next of so many ways; all have their turn, so that a short run meets each of them.
+    fn turn(&mut self, sort: usize, ways: usize) -> usize {
+        self.turns[sort] += 1;
+        self.turns[sort] % ways
     }
 
     fn rows(&mut self) -> usize {
@@ -29,7 +36,7 @@ impl Caller {
     fn ill_formed_server(&mut self) {
         let rows = self.rows();
         let mut lib = plant::server(&mut self.random, rows);
-        let at = self.random.below(TABLE_WAYS.len() + SERVER_WAYS.len());
+        let at = self.turn(0, TABLE_WAYS.len() + SERVER_WAYS.len());
         let name = if let Some(way) = TABLE_WAYS.get(at) {
             (way.apply)(&mut self.random, &mut lib.table);
             way.name
@@ -45,7 +52,7 @@ impl Caller {
         let rows = self.rows();
         // With the empty subtree a bad key cannot be refused for not being under it.
         let mut lib = plant::client(&mut self.random, rows, b"");
-        let at = self.random.below(TABLE_WAYS.len() + CLIENT_WAYS.len());
+        let at = self.turn(1, TABLE_WAYS.len() + CLIENT_WAYS.len());
         let name = if let Some(way) = TABLE_WAYS.get(at) {
             (way.apply)(&mut self.random, &mut lib.table);
             way.name
@@ -59,7 +66,7 @@ impl Caller {
 
     fn odd_server(&mut self) {
         let rows = self.rows();
-        let way = &ODD_SERVERS[self.random.below(ODD_SERVERS.len())];
+        let way = &ODD_SERVERS[self.turn(2, ODD_SERVERS.len())];
         let mut lib = plant::server(&mut self.random, rows);
         (way.apply)(&mut self.random, &mut lib);
         self.call_server(&mut ServerPair::of(lib), way.name, false);
@@ -67,7 +74,7 @@ impl Caller {
 
     fn odd_client(&mut self) {
         let rows = self.rows();
-        let way = &ODD_CLIENTS[self.random.below(ODD_CLIENTS.len())];
+        let way = &ODD_CLIENTS[self.turn(3, ODD_CLIENTS.len())];
         let mut subtree = names::subtree(&mut self.random);
         if subtree.len() > 90 {
             // Too few keys fit under it.
@@ -81,7 +88,7 @@ impl Caller {
     /// Counts a call on such a state, and reports it if the state was not judged as it should be.
     fn judged(&mut self, entry: Entry, answer: c::Answer, name: &str, ill_formed: bool) {
         if (answer.refusal == ILL_FORMED) == ill_formed {
-            self.run.counts.state(ill_formed, name, entry);
+            self.run.counts.sort(if ill_formed { Sort::IllFormed } else { Sort::Odd }, name, entry);
         } else {
             self.run.report(entry, "a state was not judged as it should be", name);
         }
@@ -96,6 +103,7 @@ impl Caller {
         self.judged(Entry::Tick, answer, name, ill_formed);
         let answer = self.request(pair);
         self.judged(Entry::Icanhaz, answer, name, ill_formed);
+        self.run.server_rows(pair);
     }
 
     fn call_client(&mut self, pair: &mut ClientPair, name: &str, ill_formed: bool) {
@@ -113,5 +121,24 @@ impl Caller {
         self.judged(Entry::Ask, answer, name, ill_formed);
         let answer = self.lookup(pair);
         self.judged(Entry::Lookup, answer, name, ill_formed);
+        self.run.client_rows(pair);
+    }
+
+    /// The rows of states that are noise all over, but for the count and some lengths.
+    fn rows_of_noise(&mut self) {
+        let random = &mut self.random;
+        let (mut s, mut c) = (c::Server::zeroed(), c::Client::zeroed());
+        random.fill(s.bytes_mut());
+        random.fill(c.bytes_mut());
+        for table in [&mut s.table, &mut c.table] {
+            table.count = random.pick(&[table.count, 1, 63, 64, 65, 66, usize::MAX]);
+            for i in 0..c::ROWS {
+                let key = random.pick(&[table.key_lengths[i], 0, 1, 95, 96, 97, 1 << 32, 1 << 63 | 5]);
+                let value = random.pick(&[table.value_lengths[i], 0, 1, 255, 256, 257, 1 << 32, 1 << 63 | 5]);
+                (table.key_lengths[i], table.value_lengths[i]) = (key, value);
+            }
+        }
+        self.run.server_rows(&ServerPair::of(s));
+        self.run.client_rows(&ClientPair::of(c));
     }
 }

@@ -1,6 +1,6 @@
 //! Calls made one after another over all lengths and places, not at random: keys, subtrees and their
 //! order with one byte changed at each place. A check that looks at several bytes at once must not
-//! miss any of them, nor look at what lies behind the key.
+//! miss any of them, nor look at what comes after the key.
 
 use crate::c;
 use crate::compare::caller::Caller;
@@ -54,13 +54,16 @@ impl Caller {
     }
 
     /// A key, or what is none, wherever one is taken: in a message, as an argument, with a slash as
-    /// a subtree, and in a state.
+    /// a subtree, and in a state. Also asks whether it is one.
     fn key_everywhere(&mut self, listeners: &mut Listeners, key: &[u8]) {
         let removal = wire::encode(&[key, &[0; 8], b"", b"", b""]);
         let tick = listeners.server.lib.last_tick;
         self.run.kvset(&mut listeners.server, &removal, tick);
         self.run.lookup(&mut listeners.live, key);
         let subtree = [key, b"/"].concat();
+        self.run.is_key(key);
+        self.run.is_subtree(key);
+        self.run.is_subtree(&subtree);
         self.run.client_start(&mut listeners.started, &subtree, 0);
         if key.len() <= c::KEY_CELL {
             self.rows_in_states(&[key]);
@@ -128,6 +131,7 @@ impl Caller {
             let (mut waiting, mut live) = (ClientPair::of(waiting), ClientPair::of(Box::new(live)));
             for at in 1..=length {
                 let key = with_byte(&under, at, b'j');
+                self.run.is_under(&subtree, &key);
                 self.ask_client(&[&key], &subtree);
                 let kvsync = fields::kvsync(&mut self.random, key.clone()).encode(&mut self.random);
                 self.run.snapshot(&mut waiting, &kvsync);

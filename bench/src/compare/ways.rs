@@ -43,7 +43,7 @@ fn key_of_97(_: &mut Random, table: &mut Table) {
     table.key_lengths[last] = 97;
 }
 
-/// Gives the first key, made longer now and then, these bytes at some place behind its first byte. They
+/// Gives the first key, made longer now and then, these bytes at some place after its first byte. They
 /// are below most bytes, so that the key mostly stays below the next one.
 fn inside(random: &mut Random, table: &mut Table, bytes: &[u8]) {
     if random.percent(70) {
@@ -58,7 +58,7 @@ fn inside(random: &mut Random, table: &mut Table, bytes: &[u8]) {
     table.key_lengths[0] = length.max(at + bytes.len()) as u64;
 }
 
-/// The bytes alone become equal, and not what lies behind them.
+/// The bytes alone become equal, and not what comes after them.
 fn equal_keys(random: &mut Random, table: &mut Table) {
     let i = random.below(table.count - 1);
     let length = table.key_lengths[i] as usize;
@@ -232,7 +232,7 @@ pub const CLIENT_WAYS: &[Way<Client>] = &[
 ];
 
 pub const ODD_SERVERS: &[Way<Server>] = &[
-    Way { name: "key behind its own beginning", apply: |r, s| prefix_last(r, &mut s.table, true) },
+    Way { name: "key after its own beginning", apply: |r, s| prefix_last(r, &mut s.table, true) },
     Way { name: "expiries of 2^62 + 86,400,000", apply: |_, s| s.expiries = [EXPIRY_MAX; 64] },
     Way { name: "expiries of 0", apply: |_, s| s.expiries = [0; 64] },
     Way { name: "rows numbered 0", apply: |_, s| s.numbers = [0; 64] },
@@ -248,7 +248,7 @@ pub const ODD_SERVERS: &[Way<Server>] = &[
 
 pub const ODD_CLIENTS: &[Way<Client>] = &[
     Way {
-        name: "key behind its own beginning",
+        name: "key after its own beginning",
         apply: |r, c| {
             c.subtree_length = 0;
             prefix_last(r, &mut c.table, true);

@@ -84,7 +84,7 @@ fn wrong_long_size(random: &mut Random, bytes: &mut Vec<u8>) {
     bytes.extend(random.bytes(body));
 }
 
-/// Puts frames behind the last one, which then says that another follows: six or more in all, or
+/// Puts frames after the last one, which then says that another follows: six or more in all, or
 /// some hundreds. The last of them may be broken.
 fn add_frames(random: &mut Random, bytes: &mut Vec<u8>) {
     if let Some(&last) = frame_starts(bytes).last() {
