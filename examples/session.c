@@ -1,25 +1,22 @@
-/* A session without a network: one server, and desks that cut clips. What a socket would carry is handed over by the functions
- * publish and join; they show what a host has to do. */
+/* A session without a network: one server, and desks that cut clips. The functions publish and join hand over what
+ * sockets would carry; examples/zeromq has the same with sockets. */
 #include "chp.h"
 
 #include <stdio.h>
 #include <string.h>
 
 #define DESKS 3
+#define TEXT(t) (const uint8_t *)(t), strlen(t)
 
 typedef struct {
     const char *name;
     const char *subtree;
-    int joined; /* the host's own note: this desk's subscriber socket is connected */
+    int joined; /* the host's own note: this desk hears what is published */
     chp_client client;
 } desk;
 
 static chp_server server;
-static desk desks[DESKS] = {
-    {.name = "desk seven", .subtree = "/clip/7/"},
-    {.name = "desk seventy", .subtree = "/clip/70/"},
-    {.name = "late desk", .subtree = "/clip/7/"},
-};
+static desk desks[DESKS];
 
 static void tell(const char *who, const char *what, chp_answer a)
 {
@@ -29,6 +26,14 @@ static void tell(const char *who, const char *what, chp_answer a)
     else if (a.written)
         printf(", %u bytes", (unsigned)a.written);
     printf(" (number %u)\n", (unsigned)a.number);
+}
+
+static void start(desk *d, const char *name, const char *subtree, uint64_t now)
+{
+    d->name = name;
+    d->subtree = subtree;
+    d->joined = 0;
+    tell(name, subtree, chp_client_start(&d->client, TEXT(subtree), now));
 }
 
 /* What the server published goes to every desk that listens. */
@@ -44,8 +49,8 @@ static void set(desk *d, const char *key, const char *properties, const char *va
 {
     char what[64];
     uint8_t request[CHP_KVPUB_MOST], update[CHP_KVPUB_MOST];
-    chp_answer a = chp_client_write_kvset(&d->client, (const uint8_t *)key, strlen(key), NULL, 0, (const uint8_t *)properties,
-        strlen(properties), (const uint8_t *)value, strlen(value), request, sizeof request);
+    chp_answer a = chp_client_write_kvset(&d->client, TEXT(key), NULL, 0, TEXT(properties), TEXT(value),
+        request, sizeof request);
     snprintf(what, sizeof what, "asks for %s = %s", key, *value ? value : "(nothing)");
     tell(d->name, what, a);
     if (a.kind != CHP_WROTE) return;
@@ -54,22 +59,36 @@ static void set(desk *d, const char *key, const char *properties, const char *va
     if (a.kind == CHP_WROTE) publish(update, a.written, now);
 }
 
-/* A desk joins: its request goes through the router, which puts an identity in front of it, and takes it off each message of the answer. */
+/* The router puts the identity of the desk in front of its request. */
+static chp_answer route(desk *d, uint8_t *snapshot, size_t room)
+{
+    uint8_t request[CHP_ICANHAZ_MOST], buffer[CHP_ICANHAZ_ROOM];
+    chp_message routed = chp_message_in(buffer, sizeof buffer);
+    chp_frame f = {0, 0, 0};
+    chp_answer a = chp_client_write_icanhaz(&d->client, request, sizeof request);
+    tell(d->name, "asks for its snapshot", a);
+    chp_message_add(&routed, d->name, (int64_t)strlen(d->name), 1);
+    while (chp_next_frame(request, a.written, &f))
+        chp_message_add(&routed, request + f.start, (int64_t)f.length, f.more != 0);
+    return chp_server_icanhaz(&server, routed.bytes, routed.length, snapshot, room);
+}
+
+/* A desk joins: it takes each message of the answer, without the identity, which the router takes off. */
 static void join(desk *d)
 {
     static uint8_t snapshot[CHP_SNAPSHOT_MOST];
-    uint8_t request[CHP_ICANHAZ_MOST], routed[CHP_ICANHAZ_MOST + CHP_IDENTITY_MOST + 2];
-    chp_answer a = chp_client_write_icanhaz(&d->client, request, sizeof request);
-    tell(d->name, "asks for its snapshot", a);
-    size_t at = chp_put_frame(routed, sizeof routed, 0, 1, (const uint8_t *)d->name, strlen(d->name));
-    memcpy(routed + at, request, a.written);
-    a = chp_server_icanhaz(&server, routed, at + a.written, snapshot, sizeof snapshot);
+    uint8_t buffer[CHP_SNAPSHOT_ROOM];
+    chp_message message = chp_message_in(buffer, sizeof buffer);
+    chp_frame f = {0, 0, 0};
+    int identity = 1;
+    chp_answer a = route(d, snapshot, sizeof snapshot);
     tell("server", "answers with the snapshot", a);
-    for (size_t from = 0, len; from < a.written; from += len) {
-        len = chp_message_length(snapshot + from, a.written - from);
-        chp_frame identity = chp_frame_at(snapshot + from, len, 0);
-        size_t skip = identity.start + identity.length;
-        tell(d->name, "reads a message of it", chp_client_snapshot(&d->client, snapshot + from + skip, len - skip));
+    while (chp_next_frame(snapshot, a.written, &f)) {
+        if (!identity) chp_message_add(&message, snapshot + f.start, (int64_t)f.length, f.more != 0);
+        identity = !f.more;
+        if (!identity) continue;
+        tell(d->name, "reads a message of it", chp_client_snapshot(&d->client, message.bytes, message.length));
+        message = chp_message_in(buffer, sizeof buffer);
     }
     d->joined = 1;
 }
@@ -78,7 +97,7 @@ static void look(desk *d, const char *key)
 {
     char what[64];
     uint8_t value[CHP_VALUE_MOST];
-    chp_answer a = chp_client_lookup(&d->client, (const uint8_t *)key, strlen(key), value, sizeof value);
+    chp_answer a = chp_client_lookup(&d->client, TEXT(key), value, sizeof value);
     if (a.kind == CHP_FOUND)
         snprintf(what, sizeof what, "looks up %s: %.*s", key, (int)a.written, (const char *)value);
     else
@@ -98,26 +117,49 @@ static void tick(uint64_t now)
     }
 }
 
+/* The last part of this update is longer than a server has room for: nothing of it is taken. */
+static void send_oversized(uint64_t now)
+{
+    static const uint8_t frame[4096] = {0};
+    uint8_t buffer[CHP_KVSET_ROOM], out[CHP_KVPUB_MOST];
+    chp_message message = chp_message_in(buffer, sizeof buffer);
+    chp_message_add(&message, "/clip/7/undo", 12, 1);
+    chp_message_add(&message, frame, 8, 1);
+    chp_message_add(&message, frame, 0, 1);
+    chp_message_add(&message, frame, 0, 1);
+    chp_message_add(&message, frame, sizeof frame, 0);
+    tell("server", "gets a value of 4096 bytes",
+        chp_server_kvset(&server, message.bytes, message.length, now, out, sizeof out));
+}
+
+static void list_rows(void)
+{
+    chp_row row;
+    for (size_t i = 0; chp_server_row(&server, i, &row); i++)
+        printf("  %.*s = %.*s, set by number %u\n", (int)row.key_length, (const char *)row.key,
+            (int)row.value_length, (const char *)row.value, (unsigned)row.number);
+}
+
 int main(void)
 {
     if (!chp_layout_agrees()) {
-        fprintf(stderr, "the header and the library lay out states in different ways\n");
+        fprintf(stderr, "this header does not fit the library\n");
         return 1;
     }
     printf("At 0 ms the server starts, and two desks.\n");
     tell("server", "starts", chp_server_start(&server, 0, 0));
-    for (int i = 0; i < 2; i++)
-        tell(desks[i].name, desks[i].subtree, chp_client_start(&desks[i].client, (const uint8_t *)desks[i].subtree, strlen(desks[i].subtree), 0));
+    start(&desks[0], "desk seven", "/clip/7/", 0);
+    start(&desks[1], "desk seventy", "/clip/70/", 0);
     join(&desks[0]);
     join(&desks[1]);
 
-    printf("\nAt 10 ms both cut. Each desk takes what lies under its own subtree.\n");
+    printf("\nAt 10 ms both cut. Each desk takes what is under its own subtree.\n");
     set(&desks[0], "/clip/7/undo", "", "cut", 10);
     set(&desks[1], "/clip/70/undo", "", "fade", 10);
     set(&desks[0], "/clip/7/camera", "ttl=2\n", "goal line", 10);
 
     printf("\nAt 20 ms a third desk joins late, and finds the same afternoon.\n");
-    tell(desks[2].name, desks[2].subtree, chp_client_start(&desks[2].client, (const uint8_t *)desks[2].subtree, strlen(desks[2].subtree), 20));
+    start(&desks[2], "late desk", "/clip/7/", 20);
     join(&desks[2]);
     look(&desks[2], "/clip/7/undo");
     look(&desks[2], "/clip/70/undo");
@@ -127,18 +169,15 @@ int main(void)
     look(&desks[0], "/clip/7/camera");
     look(&desks[2], "/clip/7/camera");
 
-    printf("\nWhat is wrong is refused, and nothing changes.\n");
+    printf("\nA malformed key and an oversized part are refused, and nothing changes.\n");
     set(&desks[0], "/clip//undo", "", "cut", 2500);
-    {
-        const uint8_t damaged[] = {1, 200, '/', 'x'};
-        uint8_t out[CHP_KVPUB_MOST];
-        tell("server", "gets a damaged message", chp_server_kvset(&server, damaged, sizeof damaged, 2500, out, sizeof out));
-    }
+    send_oversized(2500);
+    list_rows();
 
     printf("\nAt 3600 ms the server has published nothing for a second: it gives a sign of life.\n");
     tick(3600);
 
-    printf("\nThen it falls silent. After more than five seconds it is presumed gone.\n");
+    printf("\nThen it is silent. After more than five seconds it is presumed gone.\n");
     tell(desks[0].name, "asks at 7500 ms", chp_client_ask(&desks[0].client, 7500));
     tell(desks[0].name, "asks at 9000 ms", chp_client_ask(&desks[0].client, 9000));
     return 0;

@@ -1,43 +1,69 @@
-/* chp.h - the bookkeeping of ZeroMQ's Clustered Hashmap Protocol (12/CHP), for C, C++ and whoever reads C headers.
+/* chp.h - the bookkeeping of ZeroMQ's Clustered Hashmap Protocol (12/CHP), for C and C++.
  *
- * A server keeps one map of keys and values, numbers each update and publishes it. A client asks for a snapshot of a subtree of the
- * map and follows what is published. This library is what stands between a message that came in and a message that goes out: it
- * has no sockets, no threads, no heap and no global data. The host moves the bytes and tells the time.
+ * A server keeps one map of keys and values, numbers each update and publishes it. A client asks for a snapshot of a
+ * subtree of the map and follows what is published. This library takes a message that came in and writes the message
+ * that goes out. It has no sockets, no threads, no heap and no global data: the host moves the bytes and tells the
+ * time.
  *
- * Link with libchp.a; there is nothing else to link. The functions in the archive are proved to do what the contracts in crates/chp
- * say; this header, the compilers and the host are not. docs/PROTOCOL.md has all the rules.
+ * Link with libchp.a. The functions in the archive are proved to meet the contracts in crates/chp. This header, the
+ * compilers and the host are not proved. docs/PROTOCOL.md has all the rules.
  *
- * HOW A CALL GOES
+ * HOW A CALL WORKS (from examples/first.c)
  *
- *   chp_server s;
- *   uint8_t out[CHP_KVPUB_MOST];
- *   chp_server_start(&s, 0, now_ms);
- *   chp_answer a = chp_server_kvset(&s, msg, msg_len, now_ms, out, sizeof out);
- *   if (a.kind == CHP_WROTE) publish(out, a.written);
- *   else log("%s", chp_refusal_text(a.refusal));
+ *     chp_server_start(&server, 0, now_ms);
+ *     a = chp_server_kvset(&server, request, request_length, now_ms, update, sizeof update);
+ *     if (a.kind == CHP_WROTE)
+ *         publish(update, a.written);
+ *     else
+ *         fprintf(stderr, "refused: %s\n", chp_refusal_text(a.refusal));
  *
- * Every function takes any state, any bytes, any tick and any length, and returns. What is wrong is refused: the answer's kind is
- * then CHP_REFUSED and its refusal one of 1 to 16, the state is as it was, bit for bit, and no byte of the output has changed. An
- * accepted call leaves the output behind the bytes that it wrote as it was.
+ * Every function accepts any state, any bytes, any tick and any length, and returns. On error the call is refused: the
+ * answer's kind is CHP_REFUSED, its refusal is one of 1 to 16, the state is unchanged bit for bit, and no byte of the
+ * output has changed. An accepted call leaves the output after the bytes that it wrote unchanged.
  *
- * MESSAGES are runs of ZMTP 3.0 frames in one piece of memory: of each frame the flag octet, the size and the body. How to make
- * one of the parts that a socket delivers, and the parts of one, stands at chp_put_frame and chp_frame_at.
+ * MESSAGES are ZMTP 3.0 frames in one piece of memory: for each frame the flag octet, the size and the body.
+ * chp_message_add builds one from the parts that a socket delivers, and chp_next_frame splits one into parts.
  *
- * WHAT THE HOST OWES
+ * TICKS are milliseconds of a clock that never runs backward, from 0 to CHP_TICK_MOST.
+ *
+ * STATES are plain data of about 25 KB. A host may copy, store or send them; they hold no pointers. A state from
+ * elsewhere may be ill-formed: every call except the starts checks that first and refuses it with CHP_ILL_FORMED.
+ *
+ * STACK. A call needs less than 4 KB. The two starts and chp_layout_agrees need up to 80 KB, since they build a whole
+ * state on the stack. The calls by value need up to 150 KB.
+ *
+ * WHAT THE HOST OWES: MEMORY
  *   - A pointer to a state points to a whole chp_server or chp_client, whatever its bits.
- *   - A pointer to bytes points to as many readable (an output: writable) bytes as the length beside it says. Where that length
- *     is 0 the pointer may be null.
- *   - An output overlaps neither the input bytes nor the state, and the input bytes overlap no state that the call changes.
- *   - No other thread writes a state, an input or an output while a call that is given it runs. Calls on different states need no
- *     care: nothing is shared.
+ *   - A pointer to bytes points to as many readable (for an output: writable) bytes as the length beside it says. With
+ *     length 0 the pointer may be null.
+ *   - An output overlaps neither the input bytes nor the state. Input bytes overlap no state that the call changes.
+ *   - No other thread writes a state, an input or an output during a call that uses it. Nothing is shared between
+ *     different states.
  *
- * TICKS are milliseconds of any clock that does not run backward, from 0 to CHP_TICK_MOST.
- *
- * STATES are plain data, some 25 KB each. They may be copied, stored and sent; nothing in them points anywhere. A state that comes
- * from elsewhere may be ill-formed: each call but the starts tests that first, and refuses it with CHP_ILL_FORMED.
- *
- * STACK. A call takes less than 4 KB. The two starts and chp_layout_agrees make a whole state on the stack and take up to 80 KB; so do
- * not call them from a thread with less. The calls by value take up to 150 KB.
+ * WHAT THE HOST OWES: THE NETWORK
+ * The library cannot see what the network loses. A client's map is the server's map at the client's number, cut to its
+ * subtree, provided that the host keeps these rules (docs/JOINING.md has the theorem, examples/zeromq a host):
+ *   - Sockets, for a port P. Server: ROUTER at P for ICANHAZ and its answer; PUB at P + 1 for what KVSET and Tick
+ *     write; SUB at P + 2, subscribed to everything, for KVSET. Client: DEALER to P; SUB to P + 1; PUB to P + 2 if it
+ *     sends updates.
+ *   - Subscribe before asking. A client connects and subscribes first. Connecting takes time: once the first message
+ *     has arrived on the SUB socket, the subscription is in place, and the client may ask for its snapshot. Keep what
+ *     arrives until the client is live, then hand it in, in order. Not reading the socket until then keeps it.
+ *   - Subscribe to everything (the empty prefix), also for a narrow subtree; the client answers CHP_OUTSIDE to what is
+ *     not its own. A client that subscribes to its subtree and the word HUGZ alone hears nothing while others edit
+ *     elsewhere, and calls the server gone.
+ *   - Lose nothing between two messages that are delivered, or start anew. ZeroMQ drops messages without a word when a
+ *     queue is at its high-water mark, by default 1000 messages. Set ZMQ_SNDHWM of the server's PUB and ZMQ_RCVHWM of
+ *     the client's SUB to 0 before bind and connect, or watch for a gap: numbers rise by one, so after CHP_APPLIED and
+ *     CHP_OUTSIDE the client's number must be one more than before the call. If not, start the client anew:
+ *     chp_client_start, then a new snapshot. HUGZ has no number: a loss shows with the next update.
+ *   - One answer at a time, and all of it. Open a new DEALER socket for each request, so that two answers cannot mix.
+ *     If a message of an answer is refused, drop the whole answer and start the client anew.
+ *   - One server at a time. A server that is started again is another server. Start it at a number above its last one:
+ *     then the clients see a gap and start anew.
+ *   - A KVSET can be lost too. The update comes back as a KVPUB; if it does not, look the key up and send it again.
+ *     Sent twice, it may be applied twice, the second time over a newer value of another client.
+ *   - There is no access control. Whoever can reach the three ports can read and change every key.
  */
 #ifndef CHP_H
 #define CHP_H
@@ -49,90 +75,104 @@
 extern "C" {
 #endif
 
+/* ---- Version ---- */
+
+#define CHP_VERSION_MAJOR 0
+#define CHP_VERSION_MINOR 7
+#define CHP_VERSION_PATCH 0
+#define CHP_VERSION (CHP_VERSION_MAJOR * 1000000 + CHP_VERSION_MINOR * 1000 + CHP_VERSION_PATCH)
+
 /* ---- Limits ---- */
 
-#define CHP_ROWS 64                                  /* rows that a state holds */
-#define CHP_KEY_MOST 96                              /* bytes of a key or a subtree */
-#define CHP_VALUE_MOST 256                           /* bytes of a value */
-#define CHP_PROPERTIES_MOST 128                      /* bytes of properties */
-#define CHP_UUID_LENGTH 16                           /* bytes of a UUID that is not empty */
-#define CHP_IDENTITY_MOST 255                        /* bytes of an identity */
+#define CHP_ROWS 64                                   /* rows that a state holds */
+#define CHP_KEY_MOST 96                               /* bytes of a key or a subtree */
+#define CHP_VALUE_MOST 256                            /* bytes of a value */
+#define CHP_PROPERTIES_MOST 128                       /* bytes of properties */
+#define CHP_UUID_LENGTH 16                            /* bytes of a UUID that is not empty */
+#define CHP_IDENTITY_MOST 255                         /* bytes of an identity */
 #define CHP_NUMBER_MOST UINT64_C(9223372036854775807) /* the last number: 2^63 - 1 */
 #define CHP_TICK_MOST UINT64_C(4611686018427387904)   /* the last tick: 2^62 */
-#define CHP_NEVER UINT64_MAX                         /* the expiry of a row that does not expire */
+#define CHP_NEVER UINT64_MAX                          /* the expiry of a row that does not expire */
 
-/* Outputs of these lengths are never too short. */
-#define CHP_KVPUB_MOST 521                           /* KVSET and Tick at a server; a client's KVSET */
+/* Outputs: with these lengths an output is never too short. */
+#define CHP_KVPUB_MOST 521      /* KVSET and Tick at a server; a client's KVSET */
 #define CHP_HUGZ_LENGTH 22
-#define CHP_ICANHAZ_MOST 108                         /* a client's ICANHAZ */
-#define CHP_SNAPSHOT_MOST 40953                      /* ICANHAZ at a server */
+#define CHP_ICANHAZ_MOST 108    /* a client's ICANHAZ */
+#define CHP_SNAPSHOT_MOST 40953 /* ICANHAZ at a server */
+
+/* Inputs: a buffer of this length holds every message that the entry can accept, as chp_message_add builds it. A longer
+ * message does not fit, and is refused with CHP_FRAMING, whatever else is wrong with it. */
+#define CHP_KVSET_ROOM 521      /* for chp_server_kvset */
+#define CHP_ICANHAZ_ROOM 365    /* for chp_server_icanhaz, with the identity in front */
+#define CHP_SNAPSHOT_ROOM 377   /* for chp_client_snapshot: one message of a snapshot */
+#define CHP_SUBSCRIBER_ROOM 521 /* for chp_client_subscriber */
 
 /* ---- Answers ---- */
 
 typedef struct chp_answer {
     uint64_t kind;    /* one of the kinds below */
-    uint64_t refusal; /* one of the refusals below, or 0 where the call is accepted */
+    uint64_t refusal; /* one of the refusals below, or 0 if the call is accepted */
     uint64_t number;  /* the number of the state after the call */
-    uint64_t written; /* bytes written to the output; 0 where the call is refused */
+    uint64_t written; /* bytes written to the output; 0 if the call is refused */
 } chp_answer;
 
 /* The kinds. */
 enum {
-    CHP_REFUSED = 0, /* nothing has changed, and nothing is written */
-    CHP_STARTED = 1, /* a server or a client begins */
-    CHP_APPLIED = 2, /* a KVPUB set or removed its row */
-    CHP_STALE = 3,   /* a KVPUB is not newer than the client, and changed nothing */
-    CHP_OUTSIDE = 4, /* a KVPUB outside the subtree: its number is taken */
-    CHP_SYNCED = 5,  /* a KVSYNC set its row */
-    CHP_LIVE = 6,    /* KTHXBAI: the snapshot is complete */
-    CHP_HEARD = 7,   /* HUGZ: the silence clock starts anew */
-    CHP_WROTE = 8,   /* a message, or a run of them, is in the output */
-    CHP_NOTHING = 9, /* Tick had nothing to do */
-    CHP_FOUND = 10,  /* the value is in the output */
-    CHP_ABSENT = 11, /* the client has no such key */
-    CHP_PRESENT = 12, /* the server has been heard of lately */
-    CHP_GONE = 13    /* the server has been silent for more than 5000 ms */
+    CHP_REFUSED = 0,  /* nothing has changed, and nothing is written */
+    CHP_STARTED = 1,  /* a server or a client begins */
+    CHP_APPLIED = 2,  /* a KVPUB set or removed its row */
+    CHP_STALE = 3,    /* a KVPUB is not newer than the client, and changed nothing */
+    CHP_OUTSIDE = 4,  /* a KVPUB outside the subtree: its number is taken */
+    CHP_SYNCED = 5,   /* a KVSYNC set its row */
+    CHP_LIVE = 6,     /* KTHXBAI: the snapshot is complete */
+    CHP_HEARD = 7,    /* HUGZ: the silence clock restarts */
+    CHP_WROTE = 8,    /* the output has a message, or several */
+    CHP_NOTHING = 9,  /* Tick had nothing to do */
+    CHP_FOUND = 10,   /* the output has the value */
+    CHP_ABSENT = 11,  /* the client has no such key */
+    CHP_PRESENT = 12, /* HUGZ was heard within the last 5000 ms */
+    CHP_GONE = 13     /* HUGZ was not heard for more than 5000 ms */
 };
 
-/* The refusals. Each function lists those that it makes in the order of its checks; the first that holds decides. */
+/* The refusals. Each function lists those that it makes in the order of its checks; the first that applies decides. */
 enum {
     CHP_ACCEPTED = 0,
-    CHP_FRAMING = 1,        /* no bytes, a bad flag octet, a frame past the end, bytes behind the last frame */
-    CHP_FRAME_COUNT = 2,    /* another count of frames than this entry takes */
+    CHP_FRAMING = 1,        /* no bytes, a bad flag octet, a frame past the end, bytes after the last frame */
+    CHP_FRAME_COUNT = 2,    /* not the number of frames that this entry takes */
     CHP_WORD = 3,           /* a snapshot request whose second frame is not ICANHAZ? */
     CHP_BAD_KEY = 4,        /* malformed key */
-    CHP_BAD_SUBTREE = 5,    /* malformed subtree; a KVSYNC's key not under the client's; a KTHXBAI of another one */
+    CHP_BAD_SUBTREE = 5,    /* malformed subtree; a KVSYNC key not under the client's; a KTHXBAI of another one */
     CHP_BAD_SEQUENCE = 6,   /* not 8 bytes; above CHP_NUMBER_MOST where it is taken; not zero in HUGZ */
-    CHP_BAD_UUID = 7,       /* neither 0 nor 16 bytes; any in KVSYNC, KTHXBAI, HUGZ */
-    CHP_BAD_PROPERTIES = 8, /* malformed, more than 128 bytes, a bad ttl; any in KVSYNC, KTHXBAI, HUGZ */
-    CHP_BAD_VALUE = 9,      /* more than 256 bytes; empty in KVSYNC; any in HUGZ */
+    CHP_BAD_UUID = 7,       /* neither 0 nor 16 bytes; not empty in KVSYNC, KTHXBAI, HUGZ */
+    CHP_BAD_PROPERTIES = 8, /* malformed, over 128 bytes, a bad ttl; not empty in KVSYNC, KTHXBAI, HUGZ */
+    CHP_BAD_VALUE = 9,      /* over 256 bytes; empty in KVSYNC; not empty in HUGZ */
     CHP_BAD_TICK = 10,      /* above CHP_TICK_MOST, or before the last one */
-    CHP_FULL = 11,          /* a row would be added to 64 */
-    CHP_EXHAUSTED = 12,     /* a new number is needed behind CHP_NUMBER_MOST */
-    CHP_PHASE = 13,         /* a waiting client that should be live, or a live one that should wait */
+    CHP_FULL = 11,          /* a new row, and 64 are held */
+    CHP_EXHAUSTED = 12,     /* a new number is needed after CHP_NUMBER_MOST */
+    CHP_PHASE = 13,         /* the client waits and should be live, or is live and should wait */
     CHP_SHORT_OUTPUT = 14,  /* the output is shorter than the answer */
-    CHP_BAD_IDENTITY = 15,  /* an identity of 0 or of more than 255 bytes */
-    CHP_ILL_FORMED = 16     /* the state handed in is ill-formed */
+    CHP_BAD_IDENTITY = 15,  /* an identity of 0 bytes, or of more than 255 */
+    CHP_ILL_FORMED = 16     /* the state is ill-formed */
 };
 
-/* The cause of a refusal in words; of a number that is none, "unknown". The text is constant. */
+/* The cause of a refusal in words; "unknown" for any other number. The text is constant. */
 static inline const char *chp_refusal_text(uint64_t refusal)
 {
     switch (refusal) {
     case CHP_ACCEPTED: return "accepted";
     case CHP_FRAMING: return "the framing is broken";
-    case CHP_FRAME_COUNT: return "wrong count of frames";
+    case CHP_FRAME_COUNT: return "wrong number of frames";
     case CHP_WORD: return "not an ICANHAZ? request";
     case CHP_BAD_KEY: return "malformed key";
     case CHP_BAD_SUBTREE: return "malformed subtree, or not the client's";
     case CHP_BAD_SEQUENCE: return "sequence is not 8 bytes, or out of range";
     case CHP_BAD_UUID: return "UUID of a wrong length";
     case CHP_BAD_PROPERTIES: return "malformed properties";
-    case CHP_BAD_VALUE: return "value too long, lacking, or out of place";
+    case CHP_BAD_VALUE: return "value too long, missing, or not allowed here";
     case CHP_BAD_TICK: return "tick out of range, or before the last one";
-    case CHP_FULL: return "no room for one row more";
-    case CHP_EXHAUSTED: return "no number left for one update more";
-    case CHP_PHASE: return "not in this phase: the client waits, or is live already";
+    case CHP_FULL: return "the table is full";
+    case CHP_EXHAUSTED: return "no number is left for another update";
+    case CHP_PHASE: return "wrong phase: the client still waits, or is already live";
     case CHP_SHORT_OUTPUT: return "the output is too short for the answer";
     case CHP_BAD_IDENTITY: return "identity of a wrong length";
     case CHP_ILL_FORMED: return "the state is ill-formed";
@@ -140,7 +180,7 @@ static inline const char *chp_refusal_text(uint64_t refusal)
     }
 }
 
-/* The name of a kind; of a number that is none, "unknown". The text is constant. */
+/* The name of a kind; "unknown" for any other number. The text is constant. */
 static inline const char *chp_kind_text(uint64_t kind)
 {
     switch (kind) {
@@ -163,12 +203,13 @@ static inline const char *chp_kind_text(uint64_t kind)
 }
 
 /* ---- States ----
- * A host may read any field. Row i, for i < count, has its key at keys[96 * i] and its value at values[256 * i]; the rows stand in
- * the order of their keys. Bytes behind a length and rows from count on mean nothing.
+ * A host may read any field; chp_server_row and chp_client_row read the rows without knowing this layout. Row i, for
+ * i < count, has its key at keys[96 * i] and its value at values[256 * i]. Rows are in key order. Bytes after a length,
+ * and rows from count on, are not part of a state.
  */
 
 typedef struct chp_table {
-    uint8_t keys[6400]; /* the last 256 bytes are no row's */
+    uint8_t keys[6400]; /* the last 256 bytes are unused */
     uint8_t values[16384];
     uint64_t key_lengths[CHP_ROWS];
     uint64_t value_lengths[CHP_ROWS];
@@ -181,21 +222,53 @@ typedef struct chp_server {
     uint64_t expiries[CHP_ROWS]; /* a tick, or CHP_NEVER */
     uint64_t number;             /* of the last update */
     uint64_t last_tick;          /* of the last accepted call with a tick */
-    uint64_t last_published;     /* of the last KVPUB or HUGZ; at first the start's */
+    uint64_t last_published;     /* the tick of the last KVPUB or HUGZ; at first that of the start */
 } chp_server;
 
 typedef struct chp_client {
     chp_table table;
     uint8_t subtree[CHP_KEY_MOST];
     uint64_t subtree_length;
-    uint64_t phase;  /* 0 while the client waits for its snapshot; any other number: it is live */
+    uint64_t phase;  /* 0: the client waits for its snapshot; any other number: it is live */
     uint64_t number; /* of the last update taken; 0 while the client waits */
-    uint64_t clock;  /* since when the server is silent */
+    uint64_t clock;  /* the tick of the last HUGZ; at first that of the start */
 } chp_client;
 
+/* ---- Messages and parts ---- */
+
+/* A message that is built from parts, in a buffer of the host. The entries refuse the bytes of a message that is void
+ * or unfinished with CHP_FRAMING; the stage tells it from a message that came in broken. */
+typedef struct chp_message {
+    uint8_t *bytes;  /* the host's buffer */
+    size_t room;     /* its length */
+    uint64_t length; /* bytes of the message so far; 0 if it is void */
+    uint64_t stage;  /* one of the stages below */
+} chp_message;
+
+/* The stages of a message. */
+enum {
+    CHP_OPEN = 0,  /* another part is to come */
+    CHP_WHOLE = 1, /* the last part has come */
+    CHP_VOID = 2   /* a part did not fit, came after the last one, or was not received; so is any larger number */
+};
+
+/* A frame of a message: where its body starts, counted from the first byte, how long the body is, and whether another
+ * frame of the same message follows (1) or not (0). */
+typedef struct chp_frame {
+    uint64_t start;
+    uint64_t length;
+    uint64_t more;
+} chp_frame;
+
+/* A part of some bytes. */
+typedef struct chp_part {
+    uint64_t start;
+    uint64_t length;
+} chp_part;
+
 /* ---- What the archive exports ----
- * Hosts call the functions further below, which hide these. A state's columns are lent one by one, so that nothing of a state is
- * copied; of a call that changes them the new count and header come back in the result.
+ * Hosts call the functions further below, which hide these. The columns of a state are lent one by one, so that nothing
+ * of a state is copied; a call that changes them returns the new count and header.
  */
 
 typedef struct chp_server_header {
@@ -228,76 +301,74 @@ typedef struct chp_client_reply {
     chp_answer answer;
 } chp_client_reply;
 
-chp_server_outcome chp_lent_server_kvset(uint8_t *keys, uint8_t *values, uint64_t *key_lengths, uint64_t *value_lengths,
-    uint64_t *numbers, uint64_t *expiries, size_t count, chp_server_header header,
+chp_server_outcome chp_lent_server_kvset(uint8_t *keys, uint8_t *values, uint64_t *key_lengths,
+    uint64_t *value_lengths, uint64_t *numbers, uint64_t *expiries, size_t count, chp_server_header header,
     const uint8_t *msg, size_t msg_len, uint64_t tick, uint8_t *out, size_t out_len);
-chp_server_outcome chp_lent_server_tick(uint8_t *keys, uint8_t *values, uint64_t *key_lengths, uint64_t *value_lengths,
-    uint64_t *numbers, uint64_t *expiries, size_t count, chp_server_header header,
+chp_server_outcome chp_lent_server_tick(uint8_t *keys, uint8_t *values, uint64_t *key_lengths,
+    uint64_t *value_lengths, uint64_t *numbers, uint64_t *expiries, size_t count, chp_server_header header,
     uint64_t tick, uint8_t *out, size_t out_len);
-chp_answer chp_lent_server_icanhaz(const uint8_t *keys, const uint8_t *values, const uint64_t *key_lengths, const uint64_t *value_lengths,
-    const uint64_t *numbers, const uint64_t *expiries, size_t count, chp_server_header header,
-    const uint8_t *msg, size_t msg_len, uint8_t *out, size_t out_len);
+chp_answer chp_lent_server_icanhaz(const uint8_t *keys, const uint8_t *values, const uint64_t *key_lengths,
+    const uint64_t *value_lengths, const uint64_t *numbers, const uint64_t *expiries, size_t count,
+    chp_server_header header, const uint8_t *msg, size_t msg_len, uint8_t *out, size_t out_len);
 
-chp_client_outcome chp_lent_client_snapshot(uint8_t *keys, uint8_t *values, uint64_t *key_lengths, uint64_t *value_lengths, size_t count,
-    const uint8_t *subtree, uint64_t subtree_length, chp_client_header header,
+chp_client_outcome chp_lent_client_snapshot(uint8_t *keys, uint8_t *values, uint64_t *key_lengths,
+    uint64_t *value_lengths, size_t count, const uint8_t *subtree, uint64_t subtree_length, chp_client_header header,
     const uint8_t *msg, size_t msg_len);
-chp_client_outcome chp_lent_client_subscriber(uint8_t *keys, uint8_t *values, uint64_t *key_lengths, uint64_t *value_lengths, size_t count,
-    const uint8_t *subtree, uint64_t subtree_length, chp_client_header header,
+chp_client_outcome chp_lent_client_subscriber(uint8_t *keys, uint8_t *values, uint64_t *key_lengths,
+    uint64_t *value_lengths, size_t count, const uint8_t *subtree, uint64_t subtree_length, chp_client_header header,
     const uint8_t *msg, size_t msg_len, uint64_t tick);
-chp_answer chp_lent_client_write_icanhaz(const uint8_t *keys, const uint8_t *values, const uint64_t *key_lengths, const uint64_t *value_lengths,
-    size_t count, const uint8_t *subtree, uint64_t subtree_length, chp_client_header header,
+chp_answer chp_lent_client_write_icanhaz(const uint8_t *keys, const uint8_t *values, const uint64_t *key_lengths,
+    const uint64_t *value_lengths, size_t count, const uint8_t *subtree, uint64_t subtree_length,
+    chp_client_header header, uint8_t *out, size_t out_len);
+chp_answer chp_lent_client_write_kvset(const uint8_t *keys, const uint8_t *values, const uint64_t *key_lengths,
+    const uint64_t *value_lengths, size_t count, const uint8_t *subtree, uint64_t subtree_length,
+    chp_client_header header, const uint8_t *key, size_t key_len, const uint8_t *uuid, size_t uuid_len,
+    const uint8_t *properties, size_t properties_len, const uint8_t *value, size_t value_len,
     uint8_t *out, size_t out_len);
-chp_answer chp_lent_client_write_kvset(const uint8_t *keys, const uint8_t *values, const uint64_t *key_lengths, const uint64_t *value_lengths,
-    size_t count, const uint8_t *subtree, uint64_t subtree_length, chp_client_header header,
-    const uint8_t *key, size_t key_len, const uint8_t *uuid, size_t uuid_len,
-    const uint8_t *properties, size_t properties_len, const uint8_t *value, size_t value_len, uint8_t *out, size_t out_len);
-chp_answer chp_lent_client_ask(const uint8_t *keys, const uint8_t *values, const uint64_t *key_lengths, const uint64_t *value_lengths,
-    size_t count, const uint8_t *subtree, uint64_t subtree_length, chp_client_header header,
-    uint64_t tick);
-chp_answer chp_lent_client_lookup(const uint8_t *keys, const uint8_t *values, const uint64_t *key_lengths, const uint64_t *value_lengths,
-    size_t count, const uint8_t *subtree, uint64_t subtree_length, chp_client_header header,
-    const uint8_t *key, size_t key_len, uint8_t *out, size_t out_len);
+chp_answer chp_lent_client_ask(const uint8_t *keys, const uint8_t *values, const uint64_t *key_lengths,
+    const uint64_t *value_lengths, size_t count, const uint8_t *subtree, uint64_t subtree_length,
+    chp_client_header header, uint64_t tick);
+chp_answer chp_lent_client_lookup(const uint8_t *keys, const uint8_t *values, const uint64_t *key_lengths,
+    const uint64_t *value_lengths, size_t count, const uint8_t *subtree, uint64_t subtree_length,
+    chp_client_header header, const uint8_t *key, size_t key_len, uint8_t *out, size_t out_len);
 
-/* The same calls with the state by value, for hosts that would rather have a function from states to states. */
+/* The same calls with the state by value, for hosts that prefer a function from states to states. */
 chp_server_reply chp_by_value_server_start(uint64_t number, uint64_t tick);
-chp_server_reply chp_by_value_server_kvset(chp_server s, const uint8_t *msg, size_t msg_len, uint64_t tick, uint8_t *out, size_t out_len);
+chp_server_reply chp_by_value_server_kvset(chp_server s, const uint8_t *msg, size_t msg_len, uint64_t tick,
+    uint8_t *out, size_t out_len);
 chp_server_reply chp_by_value_server_tick(chp_server s, uint64_t tick, uint8_t *out, size_t out_len);
-chp_server_reply chp_by_value_server_icanhaz(chp_server s, const uint8_t *msg, size_t msg_len, uint8_t *out, size_t out_len);
+chp_server_reply chp_by_value_server_icanhaz(chp_server s, const uint8_t *msg, size_t msg_len,
+    uint8_t *out, size_t out_len);
 chp_client_reply chp_by_value_client_start(const uint8_t *subtree, size_t subtree_len, uint64_t tick);
 chp_client_reply chp_by_value_client_snapshot(chp_client c, const uint8_t *msg, size_t msg_len);
 chp_client_reply chp_by_value_client_subscriber(chp_client c, const uint8_t *msg, size_t msg_len, uint64_t tick);
 chp_answer chp_by_value_client_write_icanhaz(chp_client c, uint8_t *out, size_t out_len);
-chp_answer chp_by_value_client_write_kvset(chp_client c, const uint8_t *key, size_t key_len, const uint8_t *uuid, size_t uuid_len,
-    const uint8_t *properties, size_t properties_len, const uint8_t *value, size_t value_len, uint8_t *out, size_t out_len);
+chp_answer chp_by_value_client_write_kvset(chp_client c, const uint8_t *key, size_t key_len,
+    const uint8_t *uuid, size_t uuid_len, const uint8_t *properties, size_t properties_len,
+    const uint8_t *value, size_t value_len, uint8_t *out, size_t out_len);
 chp_answer chp_by_value_client_ask(chp_client c, uint64_t tick);
 chp_answer chp_by_value_client_lookup(chp_client c, const uint8_t *key, size_t key_len, uint8_t *out, size_t out_len);
 
-/* A part of some bytes. */
-typedef struct chp_part {
-    uint64_t start;
-    uint64_t length;
-} chp_part;
-
-/* A frame in some bytes: where its body starts, counted from the first of the bytes, and how long it is; more is 1 if the frame
- * promises another, and whole is 1 if there is such a frame at all. */
-typedef struct chp_frame {
-    uint64_t start;
-    uint64_t length;
-    uint64_t more;
-    uint64_t whole;
-} chp_frame;
-
+/* built: length and stage of a message; frame: start, length and more of a frame. */
+void chp_bytes_put_part(uint8_t *buffer, size_t room, uint64_t *built, uint64_t more,
+    const uint8_t *part, size_t part_len);
+uint64_t chp_bytes_next_frame(const uint8_t *bytes, size_t len, uint64_t *frame);
+size_t chp_bytes_message_length(const uint8_t *bytes, size_t len);
 chp_part chp_bytes_value(const uint8_t *msg, size_t msg_len);
 uint64_t chp_bytes_value_refusal(const uint8_t *msg, size_t msg_len);
-chp_frame chp_bytes_frame_at(const uint8_t *msg, size_t msg_len, size_t at);
-size_t chp_bytes_message_length(const uint8_t *bytes, size_t len);
-size_t chp_bytes_put_frame(uint8_t *out, size_t out_len, size_t at, uint64_t more, const uint8_t *body, size_t body_len);
 
-/* States in which each field holds a mark, 1, 2, 3 and so on in the order of the fields. */
+uint64_t chp_bytes_is_key(const uint8_t *bytes, size_t len);
+uint64_t chp_bytes_is_subtree(const uint8_t *bytes, size_t len);
+uint64_t chp_bytes_is_under(const uint8_t *subtree, size_t subtree_len, const uint8_t *key, size_t key_len);
+
+/* States in which each field holds a mark: 1, 2, 3 and so on, in the order of the fields. */
 chp_server_reply chp_layout_server(void);
 chp_client_reply chp_layout_client(void);
 
-/* Bytes of length 0 may come with a null pointer; the archive wants one that is not null. */
+/* The version that the archive was built as; to be compared with CHP_VERSION. */
+uint64_t chp_archive_version(void);
+
+/* Bytes of length 0 may come with a null pointer; the archive needs one that is not null. */
 static inline const uint8_t *chp_in(const uint8_t *p)
 {
     static const uint8_t none = 0;
@@ -348,7 +419,7 @@ static inline chp_answer chp_end_client(chp_client *c, chp_client_outcome r)
 
 /* ---- The server ---- */
 
-/* A server without rows at a number and a tick: started. Both clocks are at that tick.
+/* A server without rows, at a number and a tick: started. Both clocks are at that tick.
  * Refuses: 6 the number, 10 the tick. Refused, *s is a server without rows at number 0 and tick 0. */
 static inline chp_answer chp_server_start(chp_server *s, uint64_t number, uint64_t tick)
 {
@@ -357,31 +428,35 @@ static inline chp_answer chp_server_start(chp_server *s, uint64_t number, uint64
     return r.answer;
 }
 
-/* KVSET at a tick: msg has five frames, key, sequence, UUID, properties, value. The number rises by one. A value that is not empty is
- * set, with an expiry if the properties have a ttl, and an empty one removes the key's row, if there is one. Writes the KVPUB, to be
- * sent to every client, at most CHP_KVPUB_MOST bytes: wrote.
+/* KVSET at a tick. msg has five frames: key, sequence, UUID, properties, value. The number rises by one. A value that
+ * is not empty is set, with an expiry if the properties have a ttl. An empty value removes the key. Writes the KVPUB,
+ * which the host sends to every client, of at most CHP_KVPUB_MOST bytes: wrote.
  * Refuses: 16, 1, 2, 4, 6, 7, 8, 9, 10, 11, 12, 14. */
-static inline chp_answer chp_server_kvset(chp_server *s, const uint8_t *msg, size_t msg_len, uint64_t tick, uint8_t *out, size_t out_len)
+static inline chp_answer chp_server_kvset(chp_server *s, const uint8_t *msg, size_t msg_len, uint64_t tick,
+    uint8_t *out, size_t out_len)
 {
-    return chp_end_server(s, chp_lent_server_kvset(s->table.keys, s->table.values, s->table.key_lengths, s->table.value_lengths,
-        s->numbers, s->expiries, s->table.count, chp_header_of_server(s), chp_in(msg), msg_len, tick, chp_out(out), out_len));
+    return chp_end_server(s, chp_lent_server_kvset(s->table.keys, s->table.values, s->table.key_lengths,
+        s->table.value_lengths, s->numbers, s->expiries, s->table.count, chp_header_of_server(s),
+        chp_in(msg), msg_len, tick, chp_out(out), out_len));
 }
 
-/* Tells the time. If rows are due (their expiry is before the tick), the one that expired first goes, the number rises by one, and its
- * KVPUB is written: wrote. Else, if nothing was published for 1000 ms, HUGZ is written: wrote. Else: nothing. To be called a few times a
- * second; after wrote at once again, since one call removes one row.
+/* Tells the time. If rows are due (their expiry is before the tick), the one that expired first is removed, the number
+ * rises by one, and its KVPUB is written: wrote. Otherwise, if nothing was published for 1000 ms, HUGZ is written:
+ * wrote. Otherwise: nothing. Call it a few times a second. If it wrote, call again at once: each call removes one row.
  * Refuses: 16, 10, 12, 14. */
 static inline chp_answer chp_server_tick(chp_server *s, uint64_t tick, uint8_t *out, size_t out_len)
 {
-    return chp_end_server(s, chp_lent_server_tick(s->table.keys, s->table.values, s->table.key_lengths, s->table.value_lengths,
-        s->numbers, s->expiries, s->table.count, chp_header_of_server(s), tick, chp_out(out), out_len));
+    return chp_end_server(s, chp_lent_server_tick(s->table.keys, s->table.values, s->table.key_lengths,
+        s->table.value_lengths, s->numbers, s->expiries, s->table.count, chp_header_of_server(s),
+        tick, chp_out(out), out_len));
 }
 
-/* ICANHAZ: msg has three frames, the client's identity, the word ICANHAZ? and a subtree. Writes the snapshot, a run of messages one
- * behind another, each with the identity frame in front: a KVSYNC for each row under the subtree, then KTHXBAI; at most
- * CHP_SNAPSHOT_MOST bytes: wrote. chp_message_length cuts them apart. The server does not change.
+/* ICANHAZ. msg has three frames: the client's identity, the word ICANHAZ? and a subtree. Writes the snapshot, messages
+ * one after another, each with the identity frame in front: a KVSYNC for each row under the subtree, then KTHXBAI; at
+ * most CHP_SNAPSHOT_MOST bytes: wrote. chp_next_frame splits all of it into parts. The server does not change.
  * Refuses: 16, 1, 2, 15, 3, 5, 14. */
-static inline chp_answer chp_server_icanhaz(const chp_server *s, const uint8_t *msg, size_t msg_len, uint8_t *out, size_t out_len)
+static inline chp_answer chp_server_icanhaz(const chp_server *s, const uint8_t *msg, size_t msg_len,
+    uint8_t *out, size_t out_len)
 {
     return chp_lent_server_icanhaz(s->table.keys, s->table.values, s->table.key_lengths, s->table.value_lengths,
         s->numbers, s->expiries, s->table.count, chp_header_of_server(s), chp_in(msg), msg_len, chp_out(out), out_len);
@@ -398,47 +473,52 @@ static inline chp_answer chp_client_start(chp_client *c, const uint8_t *subtree,
     return r.answer;
 }
 
-/* A message from the server's router, without the identity frame: KTHXBAI of the client's subtree makes it live at that number: live.
- * Anything else is a KVSYNC, whose row is set: synced. Only while the client waits.
+/* A message from the server's router, without the identity frame. KTHXBAI with the client's subtree takes the number
+ * and makes the client live: live. Anything else is a KVSYNC, which sets its row: synced. Only while the client waits.
  * Refuses KTHXBAI: 16, 1, 2, 5, 6, 7, 8, 13. Refuses KVSYNC: 16, 1, 2, 4, 5, 6, 7, 8, 9, 13, 11. */
 static inline chp_answer chp_client_snapshot(chp_client *c, const uint8_t *msg, size_t msg_len)
 {
-    return chp_end_client(c, chp_lent_client_snapshot(c->table.keys, c->table.values, c->table.key_lengths, c->table.value_lengths,
-        c->table.count, c->subtree, c->subtree_length, chp_header_of_client(c), chp_in(msg), msg_len));
+    return chp_end_client(c, chp_lent_client_snapshot(c->table.keys, c->table.values, c->table.key_lengths,
+        c->table.value_lengths, c->table.count, c->subtree, c->subtree_length, chp_header_of_client(c),
+        chp_in(msg), msg_len));
 }
 
-/* A message that the server published. HUGZ: heard, and the silence clock is at the tick, which only HUGZ uses. Anything else is a
- * KVPUB: stale where its number is not above the client's, and nothing changes; else its number is taken, and its row is set or
- * removed: applied; or its key is not under the subtree: outside. Only once the client is live. (While it waits, a host keeps what is
- * published, and hands it in after KTHXBAI.)
+/* A message that the server published. HUGZ sets the silence clock to the tick: heard. Only HUGZ uses the tick.
+ * Anything else is a KVPUB. If its number is not above the client's, nothing changes: stale. Otherwise the client takes
+ * the number. If the key is under the subtree, its row is set or removed: applied; if not: outside. Only once the
+ * client is live; while it waits, the host keeps what is published and hands it in after KTHXBAI.
  * Refuses HUGZ: 16, 1, 2, 6, 7, 8, 9, 10, 13. Refuses KVPUB: 16, 1, 2, 4, 6, 7, 8, 9, 13, 11. */
 static inline chp_answer chp_client_subscriber(chp_client *c, const uint8_t *msg, size_t msg_len, uint64_t tick)
 {
-    return chp_end_client(c, chp_lent_client_subscriber(c->table.keys, c->table.values, c->table.key_lengths, c->table.value_lengths,
-        c->table.count, c->subtree, c->subtree_length, chp_header_of_client(c), chp_in(msg), msg_len, tick));
+    return chp_end_client(c, chp_lent_client_subscriber(c->table.keys, c->table.values, c->table.key_lengths,
+        c->table.value_lengths, c->table.count, c->subtree, c->subtree_length, chp_header_of_client(c),
+        chp_in(msg), msg_len, tick));
 }
 
-/* Writes ICANHAZ, the request for the snapshot: the word and the client's subtree, at most CHP_ICANHAZ_MOST bytes: wrote. The router
- * socket puts the identity in front of it. The client does not change.
- * Refuses: 16, 13 where it is live, 14. */
+/* Writes ICANHAZ, the request for the snapshot: the word and the client's subtree, at most CHP_ICANHAZ_MOST bytes:
+ * wrote. The router socket puts the identity in front. The client does not change.
+ * Refuses: 16, 13 if it is live, 14. */
 static inline chp_answer chp_client_write_icanhaz(const chp_client *c, uint8_t *out, size_t out_len)
 {
     return chp_lent_client_write_icanhaz(c->table.keys, c->table.values, c->table.key_lengths, c->table.value_lengths,
         c->table.count, c->subtree, c->subtree_length, chp_header_of_client(c), chp_out(out), out_len);
 }
 
-/* Writes KVSET, the request for an update of any key, at most CHP_KVPUB_MOST bytes: wrote. An empty value asks for a removal. The
- * client does not change: the update comes back to it in a KVPUB.
+/* Writes KVSET, the request for an update of any key, of at most CHP_KVPUB_MOST bytes: wrote. An empty value removes
+ * the key. The client does not change: the update comes back to it as a KVPUB.
  * Refuses: 16, 4, 7, 8, 9, 14. */
-static inline chp_answer chp_client_write_kvset(const chp_client *c, const uint8_t *key, size_t key_len, const uint8_t *uuid, size_t uuid_len,
-    const uint8_t *properties, size_t properties_len, const uint8_t *value, size_t value_len, uint8_t *out, size_t out_len)
+static inline chp_answer chp_client_write_kvset(const chp_client *c, const uint8_t *key, size_t key_len,
+    const uint8_t *uuid, size_t uuid_len, const uint8_t *properties, size_t properties_len,
+    const uint8_t *value, size_t value_len, uint8_t *out, size_t out_len)
 {
     return chp_lent_client_write_kvset(c->table.keys, c->table.values, c->table.key_lengths, c->table.value_lengths,
-        c->table.count, c->subtree, c->subtree_length, chp_header_of_client(c), chp_in(key), key_len, chp_in(uuid), uuid_len,
-        chp_in(properties), properties_len, chp_in(value), value_len, chp_out(out), out_len);
+        c->table.count, c->subtree, c->subtree_length, chp_header_of_client(c), chp_in(key), key_len,
+        chp_in(uuid), uuid_len, chp_in(properties), properties_len, chp_in(value), value_len, chp_out(out), out_len);
 }
 
-/* Whether the server has been silent for more than 5000 ms at a tick: gone, or else present. The client does not change.
+/* Whether more than 5000 ms have passed since HUGZ was heard, or since the start: gone, otherwise present. A server
+ * that publishes updates all the time sends no HUGZ: ask only if no update has arrived for a while either. The client
+ * does not change.
  * Refuses: 16, 10. */
 static inline chp_answer chp_client_ask(const chp_client *c, uint64_t tick)
 {
@@ -446,68 +526,181 @@ static inline chp_answer chp_client_ask(const chp_client *c, uint64_t tick)
         c->table.count, c->subtree, c->subtree_length, chp_header_of_client(c), tick);
 }
 
-/* Copies the value of a key to the output, at most CHP_VALUE_MOST bytes: found. Where the client has no such key: absent, and nothing is
- * written. Only once the client is live. The client does not change.
+/* Copies the value of a key to the output, at most CHP_VALUE_MOST bytes: found. If the client has no such key: absent,
+ * and nothing is written. Only once the client is live. The client does not change.
  * Refuses: 16, 4, 13, 14. */
-static inline chp_answer chp_client_lookup(const chp_client *c, const uint8_t *key, size_t key_len, uint8_t *out, size_t out_len)
+static inline chp_answer chp_client_lookup(const chp_client *c, const uint8_t *key, size_t key_len,
+    uint8_t *out, size_t out_len)
 {
     return chp_lent_client_lookup(c->table.keys, c->table.values, c->table.key_lengths, c->table.value_lengths,
-        c->table.count, c->subtree, c->subtree_length, chp_header_of_client(c), chp_in(key), key_len, chp_out(out), out_len);
+        c->table.count, c->subtree, c->subtree_length, chp_header_of_client(c), chp_in(key), key_len,
+        chp_out(out), out_len);
 }
 
-/* ---- Messages as bytes ---- */
+/* ---- Rows ---- */
 
-/* The value frame of a message of five frames, whatever they hold: where it starts in msg and how long it is. Where the message is
- * refused (see chp_value_refusal) its length is 0. */
-static inline chp_part chp_value(const uint8_t *msg, size_t msg_len)
+/* A row of a state. Key and value point into the state, and are valid until the next call that changes it. */
+typedef struct chp_row {
+    const uint8_t *key;
+    size_t key_length;
+    const uint8_t *value;
+    size_t value_length;
+    uint64_t number; /* of the row's last set; 0 at a client, which keeps none */
+    uint64_t expiry; /* a tick, or CHP_NEVER; CHP_NEVER at a client */
+} chp_row;
+
+static inline int chp_row_of(const chp_table *t, size_t i, chp_row *row)
 {
-    return chp_bytes_value(chp_in(msg), msg_len);
+    if (i >= t->count || i >= CHP_ROWS || t->key_lengths[i] > CHP_KEY_MOST || t->value_lengths[i] > CHP_VALUE_MOST)
+        return 0;
+    row->key = t->keys + CHP_KEY_MOST * i;
+    row->key_length = (size_t)t->key_lengths[i];
+    row->value = t->values + CHP_VALUE_MOST * i;
+    row->value_length = (size_t)t->value_lengths[i];
+    row->number = 0;
+    row->expiry = CHP_NEVER;
+    return 1;
 }
 
-/* 0 where msg has five frames, and else the refusal: 1 or 2. */
-static inline uint64_t chp_value_refusal(const uint8_t *msg, size_t msg_len)
+/* Row i of a server, counted from 0 in key order: 1, and *row is set; or 0, if there is no such row, and *row is
+ * unchanged. In an ill-formed state, a row whose lengths do not fit its cells is no row. */
+static inline int chp_server_row(const chp_server *s, size_t i, chp_row *row)
 {
-    return chp_bytes_value_refusal(chp_in(msg), msg_len);
+    if (!chp_row_of(&s->table, i, row)) return 0;
+    row->number = s->numbers[i];
+    row->expiry = s->expiries[i];
+    return 1;
 }
 
-/* The frame of msg that begins at a place: at 0 the first one. The next begins at start + length. All numbers are 0 where no whole
- * frame begins there. So a message becomes the parts that a socket sends:
+/* The same of a client. While it waits, these are the rows of the snapshot so far. */
+static inline int chp_client_row(const chp_client *c, size_t i, chp_row *row)
+{
+    return chp_row_of(&c->table, i, row);
+}
+
+/* ---- Messages from and to sockets ----
+ * ZeroMQ delivers a message part by part. These functions receive one, and send what a call wrote (from
+ * examples/zeromq/sockets.h, which the example programs use):
  *
- *   for (size_t at = 0; at < len;) {
- *       chp_frame f = chp_frame_at(msg, len, at);
- *       zmq_send(socket, msg + f.start, f.length, f.more ? ZMQ_SNDMORE : 0);
- *       at = f.start + f.length;
- *   }
+ *     static inline int receive(void *socket, chp_message *message)
+ *     {
+ *         int size, more;
+ *         *message = chp_message_in(message->bytes, message->room);
+ *         do {
+ *             zmq_msg_t part;
+ *             if (zmq_msg_init(&part) != 0) return -1;
+ *             do size = zmq_msg_recv(&part, socket, 0);
+ *             while (size == -1 && zmq_errno() == EINTR);
+ *             more = size >= 0 && zmq_msg_more(&part);
+ *             chp_message_add(message, zmq_msg_data(&part), size, more);
+ *             if (zmq_msg_close(&part) != 0) return -1;
+ *         } while (more);
+ *         return size < 0 ? -1 : 0;
+ *     }
+ *
+ *     static inline int send_messages(void *socket, const uint8_t *bytes, size_t length)
+ *     {
+ *         chp_frame frame = {0, 0, 0};
+ *         while (chp_next_frame(bytes, length, &frame)) {
+ *             int sent;
+ *             do sent = zmq_send(socket, bytes + frame.start, frame.length, frame.more ? ZMQ_SNDMORE : 0);
+ *             while (sent == -1 && zmq_errno() == EINTR);
+ *             if (sent == -1) return -1;
+ *         }
+ *         return frame.start + frame.length == length ? 0 : -1;
+ *     }
  */
-static inline chp_frame chp_frame_at(const uint8_t *msg, size_t msg_len, size_t at)
+
+/* Begins a message in a buffer of so many bytes; CHP_KVSET_ROOM and the like are enough. Each message begins with this
+ * call, also in a buffer that was used before. */
+static inline chp_message chp_message_in(uint8_t *buffer, size_t room)
 {
-    return chp_bytes_frame_at(chp_in(msg), msg_len, at);
+    chp_message m;
+    m.bytes = buffer;
+    m.room = room;
+    m.length = 0;
+    m.stage = CHP_OPEN;
+    return m;
 }
 
-/* The length of the whole message that some bytes begin with, up to its last frame; 0 where they begin with none. */
+/* Adds a part of so many bytes; more is 0 if it is the last one. If the part does not fit, if it comes after the last
+ * one, or if its length is negative (as a socket's -1), the message is void, and stays void whatever is added. So the
+ * bytes of a message are exactly the parts that were added, in their order, or every entry refuses them.
+ * Caution: zmq_recv returns the length before truncation, which may be more than your buffer holds. Use zmq_msg_recv as
+ * above, or a part buffer that is no shorter than the room: a longer part is then void before it is read. */
+static inline void chp_message_add(chp_message *m, const void *part, int64_t length, int more)
+{
+    uint64_t built[2];
+    if (length < 0 || (uint64_t)length > m->room) {
+        m->length = 0;
+        m->stage = CHP_VOID;
+        return;
+    }
+    built[0] = m->length;
+    built[1] = m->stage;
+    chp_bytes_put_part(chp_out(m->bytes), m->room, built, more ? 1 : 0, chp_in((const uint8_t *)part), (size_t)length);
+    m->length = built[0];
+    m->stage = built[1];
+}
+
+/* The frame after *frame in some bytes that hold messages one after another; after {0, 0, 0}, the first one. Returns 1
+ * and sets *frame; or returns 0 and leaves *frame, after the last whole message. Of a message that is not whole no
+ * frame is given. So the loop above ends on any bytes, and never sends half a message. */
+static inline int chp_next_frame(const uint8_t *bytes, size_t len, chp_frame *frame)
+{
+    uint64_t next[3];
+    next[0] = frame->start;
+    next[1] = frame->length;
+    next[2] = frame->more;
+    if (!chp_bytes_next_frame(chp_in(bytes), len, next)) return 0;
+    frame->start = next[0];
+    frame->length = next[1];
+    frame->more = next[2];
+    return 1;
+}
+
+/* The length of the whole message that some bytes begin with, up to its last frame; 0 if they begin with none. */
 static inline size_t chp_message_length(const uint8_t *bytes, size_t len)
 {
     return chp_bytes_message_length(chp_in(bytes), len);
 }
 
-/* Writes a frame to the output from a place on and gives the place behind it; more says whether another frame is to follow. Where the
- * frame does not fit, nothing is written and the place itself comes back. So the parts that a socket received become a message:
- *
- *   size_t at = 0;
- *   do {
- *       n = zmq_recv(socket, part, sizeof part, 0);
- *       zmq_getsockopt(socket, ZMQ_RCVMORE, &more, &more_size);
- *       at = chp_put_frame(msg, sizeof msg, at, more, part, n);
- *   } while (more);
- */
-static inline size_t chp_put_frame(uint8_t *out, size_t out_len, size_t at, int more, const uint8_t *body, size_t body_len)
+/* The value frame of a message of five frames, whatever they hold: where it starts in msg and how long it is. If the
+ * message is refused (see chp_value_refusal), the length is 0. */
+static inline chp_part chp_value(const uint8_t *msg, size_t msg_len)
 {
-    return chp_bytes_put_frame(chp_out(out), out_len, at, more ? 1 : 0, chp_in(body), body_len);
+    return chp_bytes_value(chp_in(msg), msg_len);
 }
 
-/* ---- A test of this header ----
- * Whether the states of this header have the layout of those in the archive: 1, or 0 if a compiler or an option lays them out in
- * another way. Both states are marked by the archive, and every element is looked at where this header has it. */
+/* 0 if msg has five frames; otherwise the refusal, 1 or 2. */
+static inline uint64_t chp_value_refusal(const uint8_t *msg, size_t msg_len)
+{
+    return chp_bytes_value_refusal(chp_in(msg), msg_len);
+}
+
+/* ---- Names ---- */
+
+/* Whether some bytes are a well-formed key: 1 or 0. */
+static inline int chp_is_key(const uint8_t *bytes, size_t len)
+{
+    return chp_bytes_is_key(chp_in(bytes), len) != 0;
+}
+
+/* Whether some bytes are a well-formed subtree: 1 or 0. The empty one is. */
+static inline int chp_is_subtree(const uint8_t *bytes, size_t len)
+{
+    return chp_bytes_is_subtree(chp_in(bytes), len) != 0;
+}
+
+/* Whether the bytes of a key begin with those of a subtree: 1 or 0. Neither need be well-formed. */
+static inline int chp_is_under(const uint8_t *subtree, size_t subtree_len, const uint8_t *key, size_t key_len)
+{
+    return chp_bytes_is_under(chp_in(subtree), subtree_len, chp_in(key), key_len) != 0;
+}
+
+/* ---- A check of this header ----
+ * Whether this header fits the archive: 1, or 0 if the versions differ, or if a compiler or an option lays out the
+ * states in another way. The archive marks both states, and every element is read where this header has it. */
 static inline int chp_marked_table(const chp_table *t)
 {
     size_t i;
@@ -528,7 +721,9 @@ static inline int chp_layout_agrees(void)
     size_t i;
     chp_server_reply s = chp_layout_server();
     chp_client_reply c = chp_layout_client();
-    int good = chp_marked_table(&s.state.table) && chp_marked_answer(&s.answer) && chp_marked_table(&c.state.table) && chp_marked_answer(&c.answer);
+    int good = chp_archive_version() == CHP_VERSION;
+    good &= chp_marked_table(&s.state.table) && chp_marked_answer(&s.answer);
+    good &= chp_marked_table(&c.state.table) && chp_marked_answer(&c.answer);
     for (i = 0; i < CHP_ROWS; i++) good &= s.state.numbers[i] == 6 && s.state.expiries[i] == 7;
     for (i = 0; i < CHP_KEY_MOST; i++) good &= c.state.subtree[i] == 6;
     good &= s.state.number == 8 && s.state.last_tick == 9 && s.state.last_published == 10;
