@@ -1,4 +1,4 @@
-// What a host tests its declarations by: the version of the library, and states in which every field holds a mark of its own.
+// What a host tests its declarations by: the library's version, and states in which every field holds a mark of its own.
 use crate::ClientReply;
 use crate::ServerReply;
 use crate::plain::PlainAnswer;

@@ -1,8 +1,5 @@
-// Messages from and to sockets, for hosts: a message built from parts, and messages split into frames. Both are told by numbers that are lent.
+// Messages from and to sockets, for hosts: a message built from parts, and messages split into frames, told by numbers.
 use parts::numbers;
-ghost use mathlib.Core.Bool.{not};
-ghost use lib.Dec.{eqb};
-ghost use Rattle.parts.specs.Build.{part as asPart};
 ghost use Rattle.parts.specs.Numbers.{Added, FrameGiven};
 
 // Adds a part to a message in a buffer, with another to follow unless more is 0.
@@ -13,7 +10,7 @@ pub extern "C" fn chp_bytes_put_part(
     more: u64,
     part: &[u8],
 )
-    ensures { λ _. ⌜ Added (now (buffer .entry)) (now (built .entry)) (asPart (not (eqb more 0)) (now (part .entry))) (now (built .exit)) (now (buffer .exit)) ⌝ }
+    ensures { λ _. ⌜ Added (now (buffer .entry)) (now (built .entry)) more (now (part .entry)) (now (built .exit)) (now (buffer .exit)) ⌝ }
 {
     numbers::add_part(buffer, built, more, part);
 }

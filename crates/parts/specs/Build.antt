@@ -58,7 +58,8 @@ grown true n = Open n
 grown false n = Whole n
 
 abbrev pub builtWith : Bytes → Built → Part → Built
-builtWith d (Open n) p = cond (fits d n (frame (p .more) (p .body))) (grown (p .more) (n + length (frame (p .more) (p .body)))) Void
+builtWith d (Open n) p =
+    cond (fits d n (frame (p .more) (p .body))) (grown (p .more) (n + length (frame (p .more) (p .body)))) Void
 builtWith d (Whole n) p = Void
 builtWith d Void p = Void
 
@@ -84,9 +85,11 @@ heldIn d b = take (lengthOf b) d
 -- parts are put one after another into a buffer of so many bytes, which then holds d, and is built so far
 pub data Ran (room : ℕ) : Log Part → Bytes → Built → Type 0 where
   begun : (d : Bytes) → length d ≡ room → Ran room empty d (Open 0)
-  added : (ps : Log Part) (d : Bytes) (b : Built) (p : Part) (d′ : Bytes) (b′ : Built) → Ran room ps d b → Put d b p b′ d′ → Ran room (ps ▷ p) d′ b′
+  added : (ps : Log Part) (d : Bytes) (b : Built) (p : Part) (d′ : Bytes) (b′ : Built)
+      → Ran room ps d b → Put d b p b′ d′ → Ran room (ps ▷ p) d′ b′
 
--- What was built reads back as exactly the parts, if they are a message that the buffer has room for, and as broken framing if not.
+-- What was built reads back as exactly the parts, if they are a message that the buffer has room for. If not, it reads as
+-- broken framing.
 pub record ReadsBack (room : ℕ) (ps : Log Part) (d : Bytes) (b : Built) : Type 0 where
   pub frames : framesIn (heldIn d b) ≡ cond (holdable room ps) (some (bodies ps)) none
   pub bytes : holdable room ps ≡ true → heldIn d b ≡ asFrames ps

@@ -6,7 +6,7 @@ use mathlib.Core.Path.{_≡_}
 use lib.Dec.{eqb}
 use lib.ListN.{getD}
 use Rattle.base.specs.Bytes.{Bytes}
-use Rattle.parts.specs.Build.{Part, Put}
+use Rattle.parts.specs.Build.{part, Put}
 use Rattle.parts.specs.Walk.{takenAt}
 use Rattle.parts.specs.declared.build.Built.the-variants.{Open, Whole, Void}
 use Rattle.parts.specs.declared.build.Built.{Built}
@@ -28,12 +28,12 @@ numbersOf (Open n) = n ∷ 0 ∷ []
 numbersOf (Whole n) = n ∷ 1 ∷ []
 numbersOf Void = 0 ∷ 2 ∷ []
 
--- a part is put into the buffer d of a message that is built as w says; then d′ and w′
-pub record Added (d : Bytes) (w : List ℕ) (p : Part) (w′ : List ℕ) (d′ : Bytes) : Type 0 where
-  pub put : Put d (builtOf w) p (builtOf w′) d′
+-- a part, with another to follow unless more is 0, is put into the buffer d of a message that is built as w says; then d′ and w′
+pub record Added (d : Bytes) (w : List ℕ) (more : ℕ) (body : Bytes) (w′ : List ℕ) (d′ : Bytes) : Type 0 where
+  pub put : Put d (builtOf w) (part (not (eqb more 0)) body) (builtOf w′) d′
   pub numbers : w′ ≡ numbersOf (builtOf w′)
 
--- ---- a frame of some bytes: where its body starts, how long it is, and whether another frame of the same message follows
+-- ---- a frame: where its body starts, how long it is, and whether another frame of the same message follows
 -- the next frame begins where the body of f ends, inside a message if f has another after it
 abbrev pub after : Bytes → List ℕ → Taken
 after s f = takenAt s (getD f 0 0 + getD f 1 0) (not (eqb (getD f 2 0) 0))

@@ -34,7 +34,8 @@ unfoldable pub takenAt : Bytes → ℕ → Bool → Taken
 takenAt s at inside = cond (mayBegin s at inside) (placed at (stepOf (drop at s))) End
 
 -- ---- all frames
--- the parts that n calls take from a place on: each call begins where the body before it ends, inside its message if that one promised another frame
+-- the parts that n calls take from a place on: each call begins where the body before it ends, inside its message if that
+-- frame promised another
 abbrev pub takenOn : (ℕ → Bool → List Part) → Bytes → Taken → List Part
 takenOn rest s End = []
 takenOn rest s (Body start len more) = part more (take len (drop start s)) ∷ rest (start + len) more
@@ -53,8 +54,8 @@ unfoldable pub partsOfAll : List Bytes → List Part
 partsOfAll [] = []
 partsOfAll (m ∷ ms) = partsOf (Option·getD (framesIn m) []) ++ partsOfAll ms
 
--- What is taken of any bytes are the parts of the whole messages that they begin with, and nothing of what comes after these. A walk ends, wherever it begins: no
--- number of calls takes more parts than there are bytes.
+-- What is taken of any bytes are the parts of the whole messages that they begin with, and nothing of what comes after.
+-- A walk ends, wherever it begins: no number of calls takes more parts than there are bytes.
 pub record TakesApart (s : Bytes) : Type 0 where
   pub parts : (n : ℕ) → length s ≤ n → taken n s 0 false ≡ partsOfAll (messagesIn s)
   pub ends : (n at : ℕ) (inside : Bool) → length (taken n s at inside) ≤ length s

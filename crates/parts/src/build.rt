@@ -27,8 +27,8 @@ fn put_at(buffer: &mut [u8], at: usize, more: bool, body: &[u8]) -> Built
     Built::Whole(next)
 }
 
-// Puts a part after those that the buffer has, as a frame; more says whether another part follows. Where it cannot be put there, the message is void and the
-// buffer stays as it is.
+// Puts a part after those that the buffer has, as a frame; more says whether another part follows. Where it cannot be put
+// there, the message is void and the buffer stays as it is.
 pub fn put_part(buffer: &mut [u8], built: Built, more: bool, body: &[u8]) -> Built
     ensures { λ r. ⌜ Put (now (buffer .entry)) built (part more (now (body .entry))) r (now (buffer .exit)) ⌝ }
 {

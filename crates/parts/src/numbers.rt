@@ -1,13 +1,11 @@
-// Both for hosts, which lend numbers: a message that is built by its length and its stage, a frame by its start, its length and whether another follows.
+// Building and splitting for hosts that lend numbers. A message that is built is told by its length and its stage, a frame
+// by its start, its length and whether another follows.
 use crate::build;
 use crate::build::Built;
 use crate::walk;
 use crate::walk::Taken;
 use base::output;
-ghost use mathlib.Core.Bool.{not};
 ghost use mathlib.Core.Path.{_≡_};
-ghost use lib.Dec.{eqb};
-ghost use Rattle.parts.specs.Build.{part as asPart};
 ghost use Rattle.parts.specs.Numbers.{builtOf, numbersOf, Added, FrameGiven};
 
 // How far a message is built, by its length and its stage: 0 open, 1 whole, any other void.
@@ -35,7 +33,7 @@ fn numbers_of(b: Built) -> [u64; 2]
 
 // Adds a part to a message in a buffer, with another to follow unless more is 0.
 pub fn add_part(buffer: &mut [u8], built: &mut [u64; 2], more: u64, part: &[u8])
-    ensures { λ _. ⌜ Added (now (buffer .entry)) (now (built .entry)) (asPart (not (eqb more 0)) (now (part .entry))) (now (built .exit)) (now (buffer .exit)) ⌝ }
+    ensures { λ _. ⌜ Added (now (buffer .entry)) (now (built .entry)) more (now (part .entry)) (now (built .exit)) (now (buffer .exit)) ⌝ }
 {
     let next = build::put_part(buffer, built_of(*built), more != 0, part);
     *built = numbers_of(next);

@@ -5,7 +5,8 @@ use frames::step::Step;
 ghost use mathlib.Core.Path.{_≡_};
 ghost use Rattle.parts.specs.Walk.{takenAt, beginsMessage};
 
-// The next frame, whose body is the len bytes from start on; more says whether another frame of the same message follows. End where there is none.
+// The next frame: its body is the len bytes from start on, and more says whether another frame of the same message
+// follows. End where there is none.
 pub enum Taken {
     Body {
         start: usize,
@@ -22,8 +23,8 @@ fn begins_message(s: &[u8], at: usize) -> bool
     0 < read::first_message(bytes::behind(s, at)).len()
 }
 
-// The frame at a place of some bytes. Between two messages, that is where no frame of the same message came before, a frame is given only if its whole message
-// is there.
+// The frame at a place of some bytes. Inside a message the frames before it promised one. Between two messages a frame is
+// given only if its whole message is there.
 pub fn next_frame(s: &[u8], at: usize, inside: bool) -> Taken
     ensures { λ r. ⌜ r ≡ takenAt (now (s .entry)) at inside ⌝ }
 {

@@ -1,11 +1,12 @@
-// Builds messages from the parts of standard input and splits others into frames, and hands all of them to every port. What it writes is held against the
-// file stdout.
+// Builds messages from the parts of standard input, hands them to every port, and splits them and other bytes into frames.
+// What it writes is compared with the file stdout.
 //
 // A line of standard input is one of these:
 //   # heading
 //   + label|room|part|part|..    parts that are put into a buffer of so many bytes, one after another
 //   = label|bytes                bytes that are split, with \xNN for a byte in hexadecimal
-// A part is + if another one follows, . if none does, and then its bytes: \xNN for a byte in hexadecimal, #N for the number N as eight octets, *N for N times x.
+// A part is + if another one follows, . if none does, and then its bytes: \xNN for a byte in hexadecimal, #N for the number
+// N as eight octets, *N for N times x.
 mod build;
 mod tell;
 

@@ -24,7 +24,7 @@ module _ (port : Bytes → List (Check Refusal)) (room : ℕ) where
   pub record Handed (ps : Log Part) (d : Bytes) (b : Built) : Type 0 where
     -- what the port takes are the parts themselves, and nothing else
     pub own : takes (port (heldIn d b)) ≡ true → heldIn d b ≡ asFrames ps
-    -- parts that are no message, or too long for the buffer, are refused as broken framing, whatever else is wrong with them
+    -- parts that are no message, or too long for the buffer, are refused as broken framing, whatever else is wrong
     pub broken : holdable room ps ≡ false → firstOf (port (heldIn d b)) ≡ some Framing
 
   -- so much room is enough: the port takes what was built exactly if it takes the parts as they are
@@ -50,4 +50,5 @@ pub record Rooms (room : ℕ) (ps : Log Part) (d : Bytes) (b : Built) : Type 0 w
 
 -- of any parts and any buffer
 abbrev pub AllRooms : Type 0
-AllRooms = (room : ℕ) (ps : Log Part) (d : Bytes) (b : Built) → room ≤ largest → Bounded ps → Ran room ps d b → Rooms room ps d b
+AllRooms =
+    (room : ℕ) (ps : Log Part) (d : Bytes) (b : Built) → room ≤ largest → Bounded ps → Ran room ps d b → Rooms room ps d b
