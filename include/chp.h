@@ -50,13 +50,14 @@
  *     has arrived on the SUB socket, the subscription is in place, and the client may ask for its snapshot. Keep what
  *     arrives until the client is live, then hand it in, in order. Not reading the socket until then keeps it.
  *   - Subscribe to everything (the empty prefix), also for a narrow subtree; the client answers CHP_OUTSIDE to what is
- *     not its own. A client that subscribes to its subtree and the word HUGZ alone hears nothing while others edit
- *     elsewhere, and calls the server gone.
- *   - Lose nothing between two messages that are delivered, or start anew. ZeroMQ drops messages without a word when a
- *     queue is at its high-water mark, by default 1000 messages. Set ZMQ_SNDHWM of the server's PUB and ZMQ_RCVHWM of
- *     the client's SUB to 0 before bind and connect, or watch for a gap: numbers rise by one, so after CHP_APPLIED and
- *     CHP_OUTSIDE the client's number must be one more than before the call. If not, start the client anew:
- *     chp_client_start, then a new snapshot. HUGZ has no number: a loss shows with the next update.
+ *     not its own. A SUB socket without a subscription receives nothing. A client that subscribes to its subtree and
+ *     the word HUGZ alone hears nothing while others edit elsewhere, and calls the server gone.
+ *   - Lose nothing between two messages that are delivered, or start anew: chp_client_start, then a new snapshot.
+ *     ZeroMQ drops messages without notice when a queue is at its high-water mark, by default 1000 messages, and when a
+ *     connection is cut. Either set ZMQ_SNDHWM of the server's PUB and ZMQ_RCVHWM of the client's SUB to 0 before bind
+ *     and connect, and start anew after a cut. Or watch for a gap, which finds both: numbers rise by one, so after
+ *     CHP_APPLIED and CHP_OUTSIDE the client's number must be one more than before the call. HUGZ has no number: a loss
+ *     shows with the next update.
  *   - One answer at a time, and all of it. Open a new DEALER socket for each request, so that two answers cannot mix.
  *     If a message of an answer is refused, drop the whole answer and start the client anew.
  *   - One server at a time. A server that is started again is another server. Start it at a number above its last one:

@@ -42,7 +42,7 @@ static void catch_signals(void)
         fail("sigaction");
 }
 
-/* At its high-water mark a PUB socket drops messages without a word, and so does a ROUTER socket that sends. A
+/* At its high-water mark a PUB socket drops messages without notice, and so does a ROUTER socket that sends. A
  * receiving socket at its mark stops reading, and then the sender drops. With no mark, nothing is lost while a
  * connection lives. The price is memory: a desk that does not read makes a queue grow at the server. A host that cannot
  * afford that sets a mark at the PUB socket, and leaves it to the desks to see the gap. */
