@@ -19,7 +19,7 @@ use Rattle.frames.proofs.FrameLaws.{frame-length, Begins, frame-begins, last-re
 use Rattle.frames.proofs.MessageLaws.{frames-step}
 use Rattle.frames.specs.Messages.{framesIn, readUpTo, frameLength, frame}
 use Rattle.parts.specs.Build.Ran.{begun, added}
-use Rattle.parts.specs.Build.{Part, part, bodies, asFrames, promising, complete, Bounded, holdable, grown, builtWith, bufferWith, Put, heldIn, Ran, ReadsBack}
+use Rattle.parts.specs.Build.{Part, partOf, bodies, asFrames, promising, complete, Bounded, holdable, grown, builtWith, bufferWith, Put, heldIn, Ran, ReadsBack}
 use Rattle.parts.specs.declared.build.Built.the-variants.{Open, Whole, Void}
 use Rattle.parts.specs.declared.build.Built.{Built}
 
@@ -230,17 +230,17 @@ reads-back room ps d b most r = go b (reached room ps d b r .state)
 
 -- ---- the code: a part is put, or it does not fit and the place does not move
 module _ (d : Bytes) (at : ℕ) (more : Bool) (b : Bytes) (i : ℕ) (o : Bytes) (w : Written d at (frame more b) i o) where
-  pub not-put : i ≡ at → Put d (Open at) (part more b) Void o
+  pub not-put : i ≡ at → Put d (Open at) (partOf more b) Void o
   not-put e = go (fits d at (frame more b)) refl
     where
-      go : (t : Bool) → fits d at (frame more b) ≡ t → Put d (Open at) (part more b) Void o
+      go : (t : Bool) → fits d at (frame more b) ≡ t → Put d (Open at) (partOf more b) Void o
       go true t = absurd (omega (arith, frame-holds more b, rw t at (w .next)))
       go false t = record { built = rw t refl; buffer = rw t (rw t at (w .out)) }
 
-  pub is-put : (i ≡ at → ⊥) → (m : Bool) → more ≡ m → Put d (Open at) (part more b) (grown m i) o
+  pub is-put : (i ≡ at → ⊥) → (m : Bool) → more ≡ m → Put d (Open at) (partOf more b) (grown m i) o
   is-put n m e = go (fits d at (frame more b)) refl
     where
-      go : (t : Bool) → fits d at (frame more b) ≡ t → Put d (Open at) (part more b) (grown m i) o
+      go : (t : Bool) → fits d at (frame more b) ≡ t → Put d (Open at) (partOf more b) (grown m i) o
       go true t = record { built = rw t (ap (grown m) (rw t at (w .next)) ∙ ap (λ (x : Bool). grown x (at + length (frame more b))) (sym e)); buffer = rw t (rw t at (w .out)) }
       go false t = absurd (n (rw t at (w .next)))
 

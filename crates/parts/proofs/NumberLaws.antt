@@ -12,7 +12,7 @@ use Rattle.base.specs.Bytes.{Bytes}
 use Rattle.base.specs.Output.{largest}
 use Rattle.frames.specs.Steps.{stepOf}
 use Rattle.parts.proofs.WalkLaws.{past-end}
-use Rattle.parts.specs.Build.{part, Put}
+use Rattle.parts.specs.Build.{partOf, Put}
 use Rattle.parts.specs.Numbers.{staged, builtOf, numbersOf, Added, after, isBody, bodyOr, FrameGiven}
 use Rattle.parts.specs.Walk.{takenAt}
 use Rattle.parts.specs.declared.build.Built.the-variants.{Open, Whole, Void}
@@ -32,7 +32,7 @@ built-back (Whole n) = refl
 built-back Void = refl
 
 pub is-added : {d : Bytes} {w : List ℕ} {more : ℕ} {body : Bytes} {w′ : List ℕ} {d′ : Bytes} {b r : Built}
-    → b ≡ builtOf w → Put d b (part (not (eqb more 0)) body) r d′ → w′ ≡ numbersOf r → Added d w more body w′ d′
+    → b ≡ builtOf w → Put d b (partOf (not (eqb more 0)) body) r d′ → w′ ≡ numbersOf r → Added d w more body w′ d′
 is-added {d} {w} {more} {body} {w′} {d′} {b} {r} e h f =
     let k : builtOf w′ ≡ r = ap builtOf f ∙ built-back r in
     record { put = rw (← e, k) h; numbers = f ∙ ap numbersOf (sym k) }

@@ -19,8 +19,8 @@ use Rattle.frames.specs.Runs.{endThrough, endIn, messageIn, messagesIn}
 use Rattle.frames.specs.Steps.{stepOf}
 use Rattle.frames.specs.declared.step.Step.the-variants.{Frame, Broken}
 use Rattle.frames.specs.declared.step.Step.{Step}
-use Rattle.parts.specs.Build.{Part, part}
-use Rattle.parts.specs.Walk.{placed, beginsMessage, mayBegin, takenAt, takenOn, taken, partsOf, partsOfAll, TakesApart}
+use Rattle.parts.specs.Build.{Part, partOf}
+use Rattle.parts.specs.Walk.{placed, beginsMessage, mayBegin, takenAt, takenOn, taken, asParts, asPartsAll, TakesApart}
 use Rattle.parts.specs.declared.walk.Taken.the-variants.{Body, End}
 use Rattle.parts.specs.declared.walk.Taken.{Taken}
 
@@ -64,24 +64,24 @@ or-true true = refl
 or-true false = refl
 
 -- ---- the parts of a message
-parts-more : (b : Bytes) (bs : List Bytes) → (length bs ≡ 0 → ⊥) → partsOf (b ∷ bs) ≡ part true b ∷ partsOf bs
-unfolding partsOf
+parts-more : (b : Bytes) (bs : List Bytes) → (length bs ≡ 0 → ⊥) → asParts (b ∷ bs) ≡ partOf true b ∷ asParts bs
+unfolding asParts
 parts-more b [] h = absurd (h refl)
 parts-more b (c ∷ bs) h = refl
 
 -- the parts of the message of k bytes that t begins with, and those of the messages after it
 abbrev first : ℕ → Bytes → List Part
-first k t = partsOf (Option·getD (framesIn (take k t)) []) ++ partsOfAll (messagesIn (drop k t))
+first k t = asParts (Option·getD (framesIn (take k t)) []) ++ asPartsAll (messagesIn (drop k t))
 
 module _ (t : Bytes) (k : ℕ) (e : endIn t ≡ some k) (start len : ℕ) where
-  first-last : stepOf t ≡ Frame start len false → first k t ≡ part false (take len (drop start t)) ∷ partsOfAll (messagesIn (drop len (drop start t)))
-  unfolding partsOf
+  first-last : stepOf t ≡ Frame start len false → first k t ≡ partOf false (take len (drop start t)) ∷ asPartsAll (messagesIn (drop len (drop start t)))
+  unfolding asParts
   first-last f =
       let c = cut-last t k e start len f in
       rw (c .1, c .0, ← drop-drop len start t)
 
   first-more : stepOf t ≡ Frame start len true
-      → (m : ℕ) × (endIn (drop len (drop start t)) ≡ some m) × (first k t ≡ part true (take len (drop start t)) ∷ first m (drop len (drop start t)))
+      → (m : ℕ) × (endIn (drop len (drop start t)) ≡ some m) × (first k t ≡ partOf true (take len (drop start t)) ∷ first m (drop len (drop start t)))
   first-more f =
       let c = cut-more t k e start len f in
       let r = cut-sound (drop len (drop start t)) (c .0) (c .1) in
@@ -89,7 +89,7 @@ module _ (t : Bytes) (k : ℕ) (e : endIn t ≡ some k) (start len : ℕ) where
     where
       go : (m : ℕ) → k ≡ start + len + m → framesIn (take k t) ≡ Option·map (λ (bodies : List Bytes). take len (drop start t) ∷ bodies) (framesIn (take m (drop len (drop start t))))
           → (bodies : List Bytes) → framesIn (take m (drop len (drop start t))) ≡ some bodies
-          → first k t ≡ part true (take len (drop start t)) ∷ first m (drop len (drop start t))
+          → first k t ≡ partOf true (take len (drop start t)) ∷ first m (drop len (drop start t))
       go m h i bodies r =
           let n : k ≡ start + (len + m) = omega arith in
           let d : drop k t ≡ drop m (drop len (drop start t)) = rw (drop-drop m len (drop start t), drop-drop (len + m) start t, n) in
@@ -98,7 +98,7 @@ module _ (t : Bytes) (k : ℕ) (e : endIn t ≡ some k) (start len : ℕ) where
 -- ---- the parts that are taken
 -- from a place between two messages, and from one where the rest of a message of k bytes begins
 abbrev Between : ℕ → Type 0
-Between n = (s : Bytes) (at : ℕ) → length s - at ≤ n → taken n s at false ≡ partsOfAll (messagesIn (drop at s))
+Between n = (s : Bytes) (at : ℕ) → length s - at ≤ n → taken n s at false ≡ asPartsAll (messagesIn (drop at s))
 
 abbrev Within : ℕ → Type 0
 Within n = (s : Bytes) (at k : ℕ) (inside : Bool) → length s - at ≤ n → endIn (drop at s) ≡ some k → taken n s at inside ≡ first k (drop at s)
@@ -136,10 +136,10 @@ nothing zero s at e = refl
 nothing (suc n) s at e = rw (begins-not s at e)
 
 between : (n : ℕ) → Fewer n → Between n
-unfolding partsOfAll
+unfolding asPartsAll
 between n ih s at l = go (endIn (drop at s)) refl
   where
-    go : (x : Option ℕ) → endIn (drop at s) ≡ x → taken n s at false ≡ partsOfAll (messagesIn (drop at s))
+    go : (x : Option ℕ) → endIn (drop at s) ≡ x → taken n s at false ≡ asPartsAll (messagesIn (drop at s))
     go none e = nothing n s at e ∙ rw (cut-step (drop at s), e)
     go (some k) e = within n ih s at k false l e ∙ rw (cut-step (drop at s), e)
 

@@ -19,8 +19,8 @@ pub record Part : Type 0 where
   pub more : Bool
   pub body : Bytes
 
-abbrev pub part : Bool → Bytes → Part
-part more body = record { more = more; body = body }
+abbrev pub partOf : Bool → Bytes → Part
+partOf more body = record { more = more; body = body }
 
 -- ---- parts that have arrived, the newest last
 unfoldable pub bodies : Log Part → List Bytes

@@ -6,7 +6,7 @@ use mathlib.Core.Path.{_≡_}
 use lib.Dec.{eqb}
 use lib.ListN.{getD}
 use Rattle.base.specs.Bytes.{Bytes}
-use Rattle.parts.specs.Build.{part, Put}
+use Rattle.parts.specs.Build.{partOf, Put}
 use Rattle.parts.specs.Walk.{takenAt}
 use Rattle.parts.specs.declared.build.Built.the-variants.{Open, Whole, Void}
 use Rattle.parts.specs.declared.build.Built.{Built}
@@ -30,7 +30,7 @@ numbersOf Void = 0 ∷ 2 ∷ []
 
 -- a part, with another to follow unless more is 0, is put into the buffer d of a message that is built as w says; then d′ and w′
 pub record Added (d : Bytes) (w : List ℕ) (more : ℕ) (body : Bytes) (w′ : List ℕ) (d′ : Bytes) : Type 0 where
-  pub put : Put d (builtOf w) (part (not (eqb more 0)) body) (builtOf w′) d′
+  pub put : Put d (builtOf w) (partOf (not (eqb more 0)) body) (builtOf w′) d′
   pub numbers : w′ ≡ numbersOf (builtOf w′)
 
 -- ---- a frame: where its body starts, how long it is, and whether another frame of the same message follows

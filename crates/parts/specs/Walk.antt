@@ -11,7 +11,7 @@ use Rattle.frames.specs.Runs.{messageIn, messagesIn}
 use Rattle.frames.specs.Steps.{stepOf}
 use Rattle.frames.specs.declared.step.Step.the-variants.{Frame, Broken}
 use Rattle.frames.specs.declared.step.Step.{Step}
-use Rattle.parts.specs.Build.{Part, part}
+use Rattle.parts.specs.Build.{Part, partOf}
 use Rattle.parts.specs.declared.walk.Taken.the-variants.{Body, End}
 use Rattle.parts.specs.declared.walk.Taken.{Taken}
 
@@ -38,24 +38,24 @@ takenAt s at inside = cond (mayBegin s at inside) (placed at (stepOf (drop at s)
 -- frame promised another
 abbrev pub takenOn : (ℕ → Bool → List Part) → Bytes → Taken → List Part
 takenOn rest s End = []
-takenOn rest s (Body start len more) = part more (take len (drop start s)) ∷ rest (start + len) more
+takenOn rest s (Body start len more) = partOf more (take len (drop start s)) ∷ rest (start + len) more
 
 unfoldable pub taken : ℕ → Bytes → ℕ → Bool → List Part
 taken zero s at inside = []
 taken (suc n) s at inside = takenOn (taken n s) s (takenAt s at inside)
 
 -- the parts of a message: each but the last promises another
-unfoldable pub partsOf : List Bytes → List Part
-partsOf [] = []
-partsOf (b ∷ []) = part false b ∷ []
-partsOf (b ∷ c ∷ bs) = part true b ∷ partsOf (c ∷ bs)
+unfoldable pub asParts : List Bytes → List Part
+asParts [] = []
+asParts (b ∷ []) = partOf false b ∷ []
+asParts (b ∷ c ∷ bs) = partOf true b ∷ asParts (c ∷ bs)
 
-unfoldable pub partsOfAll : List Bytes → List Part
-partsOfAll [] = []
-partsOfAll (m ∷ ms) = partsOf (Option·getD (framesIn m) []) ++ partsOfAll ms
+unfoldable pub asPartsAll : List Bytes → List Part
+asPartsAll [] = []
+asPartsAll (m ∷ ms) = asParts (Option·getD (framesIn m) []) ++ asPartsAll ms
 
 -- What is taken of any bytes are the parts of the whole messages that they begin with, and nothing of what comes after.
 -- A walk ends, wherever it begins: no number of calls takes more parts than there are bytes.
 pub record TakesApart (s : Bytes) : Type 0 where
-  pub parts : (n : ℕ) → length s ≤ n → taken n s 0 false ≡ partsOfAll (messagesIn s)
+  pub parts : (n : ℕ) → length s ≤ n → taken n s 0 false ≡ asPartsAll (messagesIn s)
   pub ends : (n at : ℕ) (inside : Bool) → length (taken n s at inside) ≤ length s

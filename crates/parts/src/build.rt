@@ -1,7 +1,7 @@
 // A message built in a lent buffer from parts that arrive one by one.
 use frame_writer::frame;
 ghost use mathlib.Core.Path.{_≡_};
-ghost use Rattle.parts.specs.Build.{part, Put, lengthOf};
+ghost use Rattle.parts.specs.Build.{partOf, Put, lengthOf};
 
 // How far a message is built.
 pub enum Built {
@@ -15,7 +15,7 @@ pub enum Built {
 
 // Puts a part as a frame from a place on, if there is room for it.
 fn put_at(buffer: &mut [u8], at: usize, more: bool, body: &[u8]) -> Built
-    ensures { λ r. ⌜ Put (now (buffer .entry)) (Built.Open at) (part more (now (body .entry))) r (now (buffer .exit)) ⌝ }
+    ensures { λ r. ⌜ Put (now (buffer .entry)) (Built.Open at) (partOf more (now (body .entry))) r (now (buffer .exit)) ⌝ }
 {
     let next = frame::put_frame(buffer, at, more, body);
     if next == at {
@@ -30,7 +30,7 @@ fn put_at(buffer: &mut [u8], at: usize, more: bool, body: &[u8]) -> Built
 // Puts a part after those that the buffer has, as a frame; more says whether another part follows. Where it cannot be put
 // there, the message is void and the buffer stays as it is.
 pub fn put_part(buffer: &mut [u8], built: Built, more: bool, body: &[u8]) -> Built
-    ensures { λ r. ⌜ Put (now (buffer .entry)) built (part more (now (body .entry))) r (now (buffer .exit)) ⌝ }
+    ensures { λ r. ⌜ Put (now (buffer .entry)) built (partOf more (now (body .entry))) r (now (buffer .exit)) ⌝ }
 {
     match built {
         Built::Open(at) => put_at(buffer, at, more, body),
