@@ -131,8 +131,8 @@ enum {
     CHP_NOTHING = 9,  /* Tick had nothing to do */
     CHP_FOUND = 10,   /* the output has the value */
     CHP_ABSENT = 11,  /* the client has no such key */
-    CHP_PRESENT = 12, /* HUGZ was heard within the last 5000 ms */
-    CHP_GONE = 13     /* HUGZ was not heard for more than 5000 ms */
+    CHP_PRESENT = 12, /* at most 5000 ms since the last HUGZ, or since the start */
+    CHP_GONE = 13     /* more than 5000 ms since then */
 };
 
 /* The refusals. Each function lists those that it makes in the order of its checks; the first that applies decides. */

@@ -33,7 +33,7 @@ static char *cut(char *text)
     return blank + 1;
 }
 
-/* Writes and sends a KVSET: 1, or 0 if it was refused or not sent. */
+/* Writes and sends a KVSET: 1, or 0 if it was refused. */
 static int send_update(desk *d, const uint8_t *key, size_t key_length, const uint8_t *value, size_t value_length)
 {
     uint8_t out[CHP_KVPUB_MOST];
@@ -43,10 +43,7 @@ static int send_update(desk *d, const uint8_t *key, size_t key_length, const uin
         print_refusal(d->name, "update", a);
         return 0;
     }
-    if (send_messages(d->publisher, out, a.written) != 0) {
-        printf("%s: update not sent: %s\n", d->name, zmq_strerror(zmq_errno()));
-        return 0;
-    }
+    if (send_messages(d->publisher, out, a.written) != 0) fail("update");
     return 1;
 }
 
@@ -132,7 +129,7 @@ static void set(desk *d, char *key)
     }
 }
 
-/* Sends a value that is a number, padded with points: 1, or 0 if it was refused or not sent. */
+/* Sends a value that is a number, padded with points: 1, or 0 if it was refused. */
 static int send_padded(desk *d, const char *key, uint64_t number, size_t length)
 {
     char value[CHP_VALUE_MOST];

@@ -56,7 +56,7 @@ static void ask(desk *d)
     if (a.kind != CHP_WROTE)
         print_refusal(d->name, "ICANHAZ", a);
     else if (send_messages(d->dealer, out, a.written) != 0)
-        printf("%s: ICANHAZ not sent: %s\n", d->name, zmq_strerror(zmq_errno()));
+        fail("ICANHAZ");
 }
 
 /* One message of the answer. If it is refused, a row may be missing, and the rest must not make the desk live: the desk
@@ -66,8 +66,7 @@ static void take_answer(desk *d)
     uint8_t buffer[CHP_SNAPSHOT_ROOM];
     chp_message message = chp_message_in(buffer, sizeof buffer);
     chp_answer a;
-    if (receive(d->dealer, &message) != 0)
-        printf("%s: answer not received: %s\n", d->name, zmq_strerror(zmq_errno()));
+    if (receive(d->dealer, &message) != 0) fail("answer");
     a = chp_client_snapshot(&d->client, buffer, message.length);
     if (a.kind == CHP_REFUSED) {
         print_refusal(d->name, "answer", a);
@@ -88,10 +87,7 @@ static void follow(desk *d)
     chp_message message = chp_message_in(buffer, sizeof buffer);
     uint64_t before = d->client.number;
     chp_answer a;
-    if (receive(d->subscriber, &message) != 0) {
-        printf("%s: published message not received: %s\n", d->name, zmq_strerror(zmq_errno()));
-        return;
-    }
+    if (receive(d->subscriber, &message) != 0) fail("published message");
     d->quiet = 0;
     a = chp_client_subscriber(&d->client, buffer, message.length, d->now);
     if (a.kind == CHP_REFUSED) {

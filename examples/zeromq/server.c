@@ -73,7 +73,7 @@ static void finish(void *socket, const char *what, chp_answer a, const uint8_t *
     if (a.kind != CHP_WROTE)
         print_refusal("server", what, a);
     else if (send_messages(socket, out, a.written) != 0)
-        printf("server: %s not sent: %s\n", what, zmq_strerror(zmq_errno()));
+        fail(what);
 }
 
 static void take_request(host *h)
@@ -81,10 +81,7 @@ static void take_request(host *h)
     static uint8_t out[CHP_SNAPSHOT_MOST];
     uint8_t buffer[CHP_ICANHAZ_ROOM];
     chp_message message = chp_message_in(buffer, sizeof buffer);
-    if (receive(h->router, &message) != 0) {
-        printf("server: ICANHAZ not received: %s\n", zmq_strerror(zmq_errno()));
-        return;
-    }
+    if (receive(h->router, &message) != 0) fail("ICANHAZ");
     finish(h->router, "ICANHAZ", chp_server_icanhaz(&h->server, buffer, message.length, out, sizeof out), out);
 }
 
@@ -92,10 +89,7 @@ static void take_update(host *h)
 {
     uint8_t buffer[CHP_KVSET_ROOM], out[CHP_KVPUB_MOST];
     chp_message message = chp_message_in(buffer, sizeof buffer);
-    if (receive(h->collector, &message) != 0) {
-        printf("server: KVSET not received: %s\n", zmq_strerror(zmq_errno()));
-        return;
-    }
+    if (receive(h->collector, &message) != 0) fail("KVSET");
     finish(h->publisher, "KVSET",
         chp_server_kvset(&h->server, buffer, message.length, clock_ms(), out, sizeof out), out);
 }

@@ -8,9 +8,9 @@
 #include <errno.h>
 #include <zmq.h>
 
-/* Receives one message into its buffer: 0, or -1 if the socket delivered none. A part that does not fit makes the
- * message void; the rest of it is received all the same, so that the next call begins with the next message. So a
- * signal must not end the loop either. */
+/* Receives one message into its buffer: 0, or -1 if the socket failed. A part that does not fit makes the message void;
+ * the rest of it is received all the same, so that the next call begins with the next message. For the same reason a
+ * signal does not end the loop, and a socket that failed must not be used again. */
 static inline int receive(void *socket, chp_message *message)
 {
     int size, more;
@@ -27,8 +27,8 @@ static inline int receive(void *socket, chp_message *message)
     return size < 0 ? -1 : 0;
 }
 
-/* Sends the messages that a call wrote: 0, or -1 if the socket refused a part, or not all bytes are whole messages. A
- * socket that refused a part in the middle of a message has the rest of it missing: close that socket. */
+/* Sends the messages that a call wrote: 0, or -1 if the socket failed, or not all bytes are whole messages. A socket
+ * that failed may have sent half a message, and must not be used again. */
 static inline int send_messages(void *socket, const uint8_t *bytes, size_t length)
 {
     chp_frame frame = {0, 0, 0};

@@ -6,7 +6,8 @@ use mathlib.Core.List.{List, [], _∷_, _++_}
 use mathlib.Core.Option.{Option, none, some, Option·getD}
 use mathlib.Core.Path.{_≡_, refl, sym, ap, _∙_}
 use lib.Dec.{leb, eqb}
-use lib.ListN.{length, getD, length-append}
+use lib.ListN.{length, getD, drop, length-append, drop-of-length-le}
+use lib.Seq.{drop-cons}
 use borrow.Author.Tests.{le-leb, leb-true, eqb-true, not-false}
 use Rattle.answers.specs.declared.refusal.Refusal.the-variants.{Framing, BadKey, BadSubtree, BadSequence, BadValue}
 use Rattle.answers.specs.declared.refusal.Refusal.{Refusal}
@@ -203,21 +204,15 @@ counted n s bs e f =
     let h = eqb-true (length (partsOf s)) n (not-false (eqb (length (partsOf s)) n) (passed 1 (framed n s) f)) in
     ap (λ (x : Option (List Bytes)). length (Option·getD x [])) (sym e) ∙ h
 
-five : (bs : List Bytes) → length bs ≡ 5 → bs ≡ getD bs 0 [] ∷ getD bs 1 [] ∷ getD bs 2 [] ∷ getD bs 3 [] ∷ getD bs 4 [] ∷ []
-five (a ∷ b ∷ c ∷ d ∷ e ∷ []) h = refl
-five [] h = absurd (omega arith)
-five (a ∷ []) h = absurd (omega arith)
-five (a ∷ b ∷ []) h = absurd (omega arith)
-five (a ∷ b ∷ c ∷ []) h = absurd (omega arith)
-five (a ∷ b ∷ c ∷ d ∷ []) h = absurd (omega arith)
-five (a ∷ b ∷ c ∷ d ∷ e ∷ f ∷ bs) h = absurd (omega arith)
+-- n entries of a list, from one of them on
+abbrev entries : ℕ → ℕ → List Bytes → List Bytes
+entries zero from bs = []
+entries (suc n) from bs = getD bs from [] ∷ entries n (suc from) bs
 
-three : (bs : List Bytes) → length bs ≡ 3 → bs ≡ getD bs 0 [] ∷ getD bs 1 [] ∷ getD bs 2 [] ∷ []
-three (a ∷ b ∷ c ∷ []) h = refl
-three [] h = absurd (omega arith)
-three (a ∷ []) h = absurd (omega arith)
-three (a ∷ b ∷ []) h = absurd (omega arith)
-three (a ∷ b ∷ c ∷ d ∷ bs) h = absurd (omega arith)
+entries-are : (n from : ℕ) (bs : List Bytes) → length bs ≡ from + n → drop from bs ≡ entries n from bs
+entries-are zero from bs h = drop-of-length-le bs {i = from} (omega arith)
+entries-are (suc n) from bs h =
+    drop-cons bs from [] (omega arith) ∙ ap (λ (l : List Bytes). getD bs from [] ∷ l) (entries-are n (suc from) bs (omega arith))
 
 -- a port of five frames whose checks bound them
 five-judged : (checks : Fields → List (Check Refusal)) (u p : ℕ) → u ≤ 255 → p ≤ 255 → ((f : Fields) → firstOf (checks f) ≡ none → Sizes f u p)
@@ -231,7 +226,7 @@ five-judged checks u p i j sizes = record { unsound = λ s e. unsound-first 5 s 
     short : (s : Bytes) (bs : List Bytes) → framesIn s ≡ some bs → firstOf (framed 5 s ++ checks (fieldsOf s)) ≡ none → total bs ≤ 377 + u + p
     short s bs e f =
         let b = both-passed (framed 5 s) (checks (fieldsOf s)) f in
-        let n = five bs (counted 5 s bs e (b .0)) in
+        let n = entries-are 5 0 bs (counted 5 s bs e (b .0)) in
         rw n (sizes-total (of bs) u p i j (sizes (of bs) (ap (λ (x : Option (List Bytes)). firstOf (checks (of (Option·getD x [])))) (sym e) ∙ b .1)))
 
 icanhaz-judged : Judged icanhazPort 365
@@ -248,7 +243,7 @@ icanhaz-judged = record { unsound = λ s e. unsound-first 3 s _ e; short = short
     short : (s : Bytes) (bs : List Bytes) → framesIn s ≡ some bs → firstOf (icanhazPort s) ≡ none → total bs ≤ 365
     short s bs e f =
         let b = both-passed (framed 3 s) (icanhazChecks (frameAt 0 s) (frameAt 1 s) (frameAt 2 s)) f in
-        let n = three bs (counted 3 s bs e (b .0)) in
+        let n = entries-are 3 0 bs (counted 3 s bs e (b .0)) in
         rw n (sum (getD bs 0 []) (getD bs 1 []) (getD bs 2 []) (ap (λ (x : Option (List Bytes)). firstOf (icanhazChecks (getD (Option·getD x []) 0 []) (getD (Option·getD x []) 1 []) (getD (Option·getD x []) 2 []))) (sym e) ∙ b .1))
 
 -- ---- all of it

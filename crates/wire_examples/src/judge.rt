@@ -1,4 +1,5 @@
-// Messages judged at every port. The client's subtree is /clip/7/.
+// Messages judged at every port, and split into frames. The client's subtree is /clip/7/.
+use crate::build;
 use answers::refusal;
 use answers::refusal::Verdict;
 use base::bytes;
@@ -6,6 +7,8 @@ use client_ports::snapshot;
 use client_ports::subscriber;
 use frames::read;
 use messages::PROPERTIES;
+use parts::walk;
+use parts::walk::Taken;
 use ports::value;
 use properties::read::Lifetime;
 use properties::read::Properties;
@@ -31,6 +34,7 @@ fn judge_line(line: &[u8]) {
     }
     let kind = line[0];
     match kind {
+        b'&' => build::build_line(bytes::behind(line, 2)),
         b'=' => judge_bytes(bytes::behind(line, 2)),
         b'+' => judge_frames(bytes::behind(line, 2)),
         _ => print::heading(bytes::behind(line, 2)),
@@ -53,8 +57,8 @@ fn judge_frames(line: &[u8]) {
     judge(bytes::front(line, bar), bytes::front(&msg, n));
 }
 
-// What the value entries and the ports make of a message: the number of the refusal, or 0.
-fn judge(label: &[u8], msg: &[u8]) {
+// What the value entries and the ports make of a message: the number of the refusal, or 0. Then its frames.
+pub(crate) fn judge(label: &[u8], msg: &[u8]) {
     print::text(label);
     print::number(b": value entries ", value::value_refusal(msg));
     print::number(b" of ", value::value_frame(msg).len() as u64);
@@ -63,7 +67,26 @@ fn judge(label: &[u8], msg: &[u8]) {
     verdict(b", snapshot ", snapshot::check_snapshot(msg, b"/clip/7/"));
     verdict(b", subscriber ", subscriber::check_subscriber(msg));
     lifetime(read::body(msg, PROPERTIES));
+    print::text(b"; frames");
+    split(msg);
     print::text(b"\n");
+}
+
+// Each frame by the length of its body, with a plus sign if another one follows.
+fn split(s: &[u8]) {
+    let mut at = 0;
+    let mut inside = false;
+    loop {
+        let Taken::Body { start, len, more } = walk::next_frame(s, at, inside) else {
+            return;
+        };
+        print::number(b" ", len as u64);
+        if more {
+            print::text(b"+");
+        }
+        at = start + len;
+        inside = more;
+    }
 }
 
 fn verdict(label: &[u8], v: Verdict) {

@@ -1,10 +1,14 @@
-// Writes the worked bytes of the wire, and then judges each message of standard input at every port. What it writes is held
-// against the file stdout.
+// Writes the worked bytes of the wire, and then judges each message of standard input at every port and splits it into
+// frames. What it writes is compared with the file stdout.
 //
 // A line of standard input is one of these, with \xNN for a byte in hexadecimal:
 //   # heading
 //   = label|bytes of a message
-//   + label|frame|frame|..      which are written as a message
+//   + label|frame|frame|..       which are written as a message
+//   & label|room|part|part|..    parts that are put into a buffer of so many bytes, one after another
+// A part is + if another one follows, . if none does, and then its bytes, or #N for the number N as eight octets, or *N for
+// N times x.
+mod build;
 mod judge;
 
 use base::bytes;

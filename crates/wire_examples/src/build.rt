@@ -1,5 +1,5 @@
 // A message built from the parts of a line.
-use crate::tell;
+use crate::judge;
 use base::bytes;
 use base::octets;
 use base::output;
@@ -12,8 +12,11 @@ pub(crate) fn build_line(s: &[u8]) {
     let mut buffer = [9; 1024];
     let room = line::number(line::field(s, 1)) as usize;
     let built = put_within(&mut buffer, room, line::behind_bars(s, 2));
-    stage(line::field(s, 0), built);
-    tell::judge(bytes::front(&buffer, build::length_of(built)));
+    stage(built);
+    judge::judge(
+        line::field(s, 0),
+        bytes::front(&buffer, build::length_of(built)),
+    );
 }
 
 // Only the first so many bytes of a buffer are used.
@@ -24,13 +27,13 @@ fn put_within(buffer: &mut [u8], room: usize, s: &[u8]) -> Built {
     put_parts(&mut buffer[..room], s)
 }
 
-fn stage(label: &[u8], built: Built) {
-    print::text(label);
+fn stage(built: Built) {
     match built {
-        Built::Open(n) => print::number(b": open, bytes ", n as u64),
-        Built::Whole(n) => print::number(b": whole, bytes ", n as u64),
-        Built::Void => print::text(b": void"),
+        Built::Open(n) => print::number(b"open, bytes ", n as u64),
+        Built::Whole(n) => print::number(b"whole, bytes ", n as u64),
+        Built::Void => print::text(b"void"),
     }
+    print::text(b"; ");
 }
 
 fn put_parts(buffer: &mut [u8], s: &[u8]) -> Built {

@@ -1,10 +1,10 @@
--- `parts_examples::build::put_parts` is safe and ends: the measure is what is left of the text. Assumes nothing.
+-- `wire_examples::build::put_parts` is safe and ends: the measure is what is left of the text. Assumes nothing.
 use Prim.Native.Nat.{_-_}
 use mathlib.Core.Path.{_≡_}
 use lib.ListN.{length}
 use borrow.Author.Needs.{needs}
-use Rattle.parts_examples.proofs.build.put_parts.Statement.{statement}
-use Rattle.parts_examples.proofs.build.put_parts.Tie as tie
+use Rattle.wire_examples.proofs.build.put_parts.Statement.{statement}
+use Rattle.wire_examples.proofs.build.put_parts.Tie as tie
 
 abbrev Inv-loop : tie.InvT-loop
 Inv-loop buffer₀ s built₀ i₀ buffer built i = length buffer ≡ length buffer₀

@@ -1,4 +1,4 @@
--- `parts_examples::tell::split` is safe and ends: each frame moves the place on. Assumes nothing.
+-- `wire_examples::judge::split` is safe and ends: each frame moves the place on. Assumes nothing.
 use Prim.Native.Nat.{_-_, _+_, _≤_}
 use native.Mathlib.Omega.{arith}
 use mathlib.Core.Path.{sym, _∙_}
@@ -6,8 +6,8 @@ use lib.ListN.{length}
 use denote.Ref.{now}
 use Rattle.parts.proofs.WalkLaws.{taken-moves}
 use borrow.Author.Needs.{needs}
-use Rattle.parts_examples.proofs.tell.split.Statement.{statement}
-use Rattle.parts_examples.proofs.tell.split.Tie as tie
+use Rattle.wire_examples.proofs.judge.split.Statement.{statement}
+use Rattle.wire_examples.proofs.judge.split.Tie as tie
 
 abbrev Inv-loop : tie.InvT-loop
 Inv-loop s at₀ inside₀ t7 t8 at inside = Unit {0}

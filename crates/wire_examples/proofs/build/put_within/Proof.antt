@@ -1,9 +1,9 @@
--- `parts_examples::build::put_within` is safe: the buffer has as many bytes as are used. Assumes nothing.
+-- `wire_examples::build::put_within` is safe: the buffer has as many bytes as are used. Assumes nothing.
 use native.Mathlib.Omega.{arith}
 use lib.ListN.{length-take}
 use borrow.Author.Needs.{needs}
-use Rattle.parts_examples.proofs.build.put_within.Statement.{statement}
-use Rattle.parts_examples.proofs.build.put_within.Tie as tie
+use Rattle.wire_examples.proofs.build.put_within.Statement.{statement}
+use Rattle.wire_examples.proofs.build.put_within.Tie as tie
 
 returns : tie.Need-returns
 returns c = search needs
