@@ -16,11 +16,10 @@ use Rattle.base.specs.Checks.{firstOf}
 use Rattle.chp.specs.Values.{IsValue}
 use Rattle.frames.proofs.FrameGrammar.{ended, some-frame}
 use Rattle.frames.proofs.MessageLaws.{frames-step, none-some, prepended}
-use Rattle.frames.specs.Messages.{through, framesIn}
+use Rattle.frames.specs.Messages.{through, framesIn, frameAt}
 use Rattle.frames.specs.Steps.{stepOf}
 use Rattle.frames.specs.declared.step.Step.the-variants.{Frame, Broken}
 use Rattle.frames.specs.declared.step.Step.{Step}
-use Rattle.messages.specs.Fields.{frameAt}
 use Rattle.ports.specs.Ports.{isNone, valueFor, valueIn}
 
 -- some bytes end with others

@@ -1,5 +1,4 @@
 // Messages as bytes, for hosts: the two value entries, and the first of several messages.
-use frames::read;
 use ports::value;
 ghost use mathlib.Core.Path.{_≡_};
 ghost use lib.ListN.{length};
@@ -42,5 +41,5 @@ pub extern "C" fn chp_bytes_value_refusal(msg: &[u8]) -> u64
 pub extern "C" fn chp_bytes_message_length(bytes: &[u8]) -> usize
     ensures { λ r. ⌜ r ≡ length (messageIn (now (bytes .entry))) ⌝ }
 {
-    read::first_message(bytes).len()
+    framing::first_message(bytes).len()
 }

@@ -10,6 +10,7 @@ use lib.Dec.{leb}
 use lib.ListN.{length, take}
 use borrow.Author.Tests.{leb-true, not-false}
 use Rattle.answers.specs.Answers.{answer}
+use Rattle.answers.specs.declared.answer.Answer.{Answer}
 use Rattle.answers.specs.declared.answer.Kind.{Kind}
 use Rattle.answers.specs.declared.refusal.Refusal.{Refusal}
 use Rattle.base.proofs.CheckLaws.{passed, both-passed}
@@ -22,36 +23,37 @@ use Rattle.client_state.specs.IllFormed.{illForms, illFormsOf}
 use Rattle.client_state.specs.Views.{isWaiting, subtreeOf, view}
 use Rattle.client_state.specs.declared.Client.{Client}
 use Rattle.client_state.specs.declared.Header.{Header}
-use Rattle.client_plan.proofs.AnswerLaws.{accepted-call, refusal-is}
-use Rattle.client.proofs.EffectLaws.{clash, Taken, RowKnown, row-known, InPhase, InTime, Carries, noted, noted-view, noted-kind, noted-good, stored-view, stored-kind, stored-good}
+use Rattle.client_plan.proofs.AnswerLaws.{refused-call, accepted-call, refusal-is}
+use Rattle.client.proofs.EffectLaws.{clash, Taken, row-known, InPhase, InTime, Carries, noted, noted-view, noted-kind, noted-good, stored-view, stored-kind, stored-good}
 use Rattle.client_plan.proofs.MessageLaws.{snapshot-sound, published-sound}
 use Rattle.client_plan.specs.Answers.{effectKind, acceptedKind}
 use Rattle.client_plan.specs.Calls.{Call, snapshot, subscriber}
-use Rattle.client_plan.specs.Entries.{received, entryEffect, entryChecks}
 use Rattle.client_plan.specs.Effects.{Effect, sync, finish, hear, stale, outside, apply, snapshotEffect, subscriberEffect}
 use Rattle.client_plan.specs.Next.{effectNext, acceptedNext}
 use Rattle.client_plan.specs.Output.{acceptedBytes}
 use Rattle.client_plan.specs.Plans.{planOf, planBy}
 use Rattle.client_plan.specs.Promises.{Answered}
 use Rattle.client_plan.specs.Refusals.{overfills, effectChecks, timeChecks, callChecks, refusalOf}
-use Rattle.client.specs.declared.Reply.{Reply}
+use Rattle.client.specs.Carried.{Storable, Stored, CarriedOut}
+use Rattle.client_plan.specs.declared.Outcome.{Outcome}
 use Rattle.client_plan.specs.declared.plan.Plan.the-variants.{Refuse, Note, Store}
 use Rattle.client_plan.specs.declared.plan.Plan.{Plan}
-use Rattle.client_plan.specs.declared.receive.Entry.the-variants.{Snapshot, Subscriber}
-use Rattle.client_plan.specs.declared.receive.Entry.{Entry}
-use Rattle.frames.specs.Messages.{bodyAt}
-use Rattle.messages.specs.Fields.{Fields, frameAt, fieldsOf}
+use Rattle.frames.specs.Messages.{frameAt}
+use Rattle.framing.specs.Splits.{IsSplit}
+use Rattle.framing.specs.declared.Split.{Split}
+use Rattle.messages.specs.Fields.{Fields, fieldsOf}
 use Rattle.names.proofs.UnderLaws.{key-short}
 use Rattle.names.specs.Keys.{under}
 use Rattle.names.specs.Numbers.{maxTick}
 use Rattle.names.specs.Words.{wordKthxbai, wordHugz}
-use Rattle.ports.proofs.PortLaws.{port-frame}
+use Rattle.ports.proofs.PortLaws.{fields-are, snapshot-is, subscriber-is}
+use Rattle.ports.specs.Bodies.{fieldsAt, snapshotBy, subscriberBy}
 use Rattle.ports.specs.Ports.{framed, snapshotChecks, snapshotPort, publishedChecks, subscriberPort, tickChecks}
 use Rattle.table.proofs.FindLaws.{held-found}
 use Rattle.table.proofs.TableLaws.{as-long, rows-long}
-use Rattle.table.specs.Changes.{Altered}
 use Rattle.table.specs.Columns.{rowsOf, tableKeys, tableValues, SizedTable}
 use Rattle.table.specs.Find.{placeOf, isFound}
+use Rattle.table.specs.declared.Table.{Table}
 use Rattle.table.specs.declared.change.Change.{Change}
 use Rattle.rows.specs.Rows.{hasKey}
 
@@ -76,22 +78,67 @@ module _ (c : Client) (z : SizedTable (c .table)) (g : GoodClient c) (e : Effect
       overfills-same (heldIn c) (λ (k : Bytes). hasKey k (rowsOf (tableKeys (c .table)) (tableValues (c .table)))) (c .table .count) (length (rowsOf (tableKeys (c .table)) (tableValues (c .table))))
       (λ k. sym (held-found k (tableKeys (c .table)) (tableValues (c .table)) (as-long z (g .rows .count)) (g .rows .rise))) (sym (rows-long z (g .rows .count))) e
 
--- ---- the checks behind that of the state, as they are made over the columns, and what the message does
-abbrev pub entryTable : Client → Entry → Bytes → ℕ → List (Check Refusal)
-entryTable c e msg t = entryChecks e (c .header) (subtreeOf c) (heldIn c) (c .table .count) msg t
+-- ---- the checks as they are made over the columns, and what the message does
+abbrev pub snapshotTable : Client → Bytes → List (Check Refusal)
+snapshotTable c msg =
+    illFormsOf c
+    ++ (snapshotPort (subtreeOf c) msg ++ effectChecks (not (isWaiting (c .header .phase))) (heldIn c) (c .table .count) (snapshotEffect (fieldsOf msg)))
 
-abbrev pub effectAt : Client → Entry → Bytes → ℕ → Effect
-effectAt c e msg t = entryEffect e (c .header .number .0) (subtreeOf c) (fieldsOf msg) t
+abbrev pub publishedEffect : Client → Bytes → ℕ → Effect
+publishedEffect c msg t = subscriberEffect (c .header .number .0) (subtreeOf c) (fieldsOf msg) t
+
+abbrev pub subscriberTable : Client → Bytes → ℕ → List (Check Refusal)
+subscriberTable c msg t =
+    illFormsOf c
+    ++ (subscriberPort msg
+    ++ (timeChecks (c .header .clock .0) (fieldsOf msg) t ++ effectChecks (isWaiting (c .header .phase)) (heldIn c) (c .table .count) (publishedEffect c msg t)))
 
 module _ (c : Client) (z : SizedTable (c .table)) (msg : Bytes) where
-  snapshot-refusal : firstOf (illFormsOf c ++ entryTable c Snapshot msg 0) ≡ refusalOf c (snapshot msg)
+  pub snapshot-refusal : firstOf (snapshotTable c msg) ≡ refusalOf c (snapshot msg)
   unfolding callChecks view
-  snapshot-refusal = refusal-is c (snapshot msg) (entryTable c Snapshot msg 0) (λ w. rw (as-rows c z (good-client c w) (snapshotEffect (fieldsOf msg))))
+  snapshot-refusal =
+      refusal-is c (snapshot msg) (snapshotPort (subtreeOf c) msg ++ effectChecks (not (isWaiting (c .header .phase))) (heldIn c) (c .table .count) (snapshotEffect (fieldsOf msg)))
+      (λ w. rw (as-rows c z (good-client c w) (snapshotEffect (fieldsOf msg))))
 
-  subscriber-refusal : (t : ℕ) → firstOf (illFormsOf c ++ entryTable c Subscriber msg t) ≡ refusalOf c (subscriber msg t)
+  pub subscriber-refusal : (t : ℕ) → firstOf (subscriberTable c msg t) ≡ refusalOf c (subscriber msg t)
   unfolding callChecks view
   subscriber-refusal t =
-      refusal-is c (subscriber msg t) (entryTable c Subscriber msg t) (λ w. rw (as-rows c z (good-client c w) (subscriberEffect (c .header .number .0) (subtreeOf c) (fieldsOf msg) t), Bool·not-not (isWaiting (c .header .phase))))
+      refusal-is c (subscriber msg t)
+      (subscriberPort msg ++ (timeChecks (c .header .clock .0) (fieldsOf msg) t ++ effectChecks (isWaiting (c .header .phase)) (heldIn c) (c .table .count) (publishedEffect c msg t)))
+      (λ w. rw (as-rows c z (good-client c w) (publishedEffect c msg t), Bool·not-not (isWaiting (c .header .phase))))
+
+-- made by the split of a message, with the part of the subtree's array that counts, the plan is that of the message
+module _ (c : Client) (msg : Bytes) (r : Split) (h : IsSplit msg r) (b : Bytes) (b-is : b ≡ subtreeOf c) where
+  abbrev ill : Bytes → List (Check Refusal)
+  ill sub = illForms (c .table .keys) (c .table .«key_lengths») (c .table .«value_lengths») (c .table .count) sub (c .«subtree_length») (c .header)
+
+  abbrev keys : List Bytes
+  keys = tableKeys (c .table)
+
+  abbrev sentPlan : Bytes → List (Check Refusal) → Fields → Plan
+  sentPlan sub port f =
+      planOf (firstOf (ill sub ++ (port ++ effectChecks (not (isWaiting (c .header .phase))) (heldIn c) (c .table .count) (snapshotEffect f)))) (planBy (c .header) keys (snapshotEffect f))
+
+  pub snapshot-planned : {plan : Plan} → plan ≡ sentPlan b (snapshotBy b msg r) (fieldsAt msg (r .places)) → plan ≡ sentPlan (subtreeOf c) (snapshotPort (subtreeOf c) msg) (fieldsOf msg)
+  snapshot-planned p =
+      p
+      ∙ ap (λ (port : List (Check Refusal)). sentPlan b port (fieldsAt msg (r .places))) (snapshot-is msg r h b)
+      ∙ ap (sentPlan b (snapshotPort b msg)) (fields-are msg r h)
+      ∙ ap (λ (sub : Bytes). sentPlan sub (snapshotPort sub msg) (fieldsOf msg)) b-is
+
+  module _ (t : ℕ) where
+    abbrev publishedPlan : Bytes → List (Check Refusal) → Fields → Plan
+    publishedPlan sub port f =
+        planOf
+        (firstOf (ill sub ++ (port ++ (timeChecks (c .header .clock .0) f t ++ effectChecks (isWaiting (c .header .phase)) (heldIn c) (c .table .count) (subscriberEffect (c .header .number .0) sub f t)))))
+        (planBy (c .header) keys (subscriberEffect (c .header .number .0) sub f t))
+
+    pub subscriber-planned : {plan : Plan} → plan ≡ publishedPlan b (subscriberBy msg r) (fieldsAt msg (r .places)) → plan ≡ publishedPlan (subtreeOf c) (subscriberPort msg) (fieldsOf msg)
+    subscriber-planned p =
+        p
+        ∙ ap (λ (port : List (Check Refusal)). publishedPlan b port (fieldsAt msg (r .places))) (subscriber-is msg r h)
+        ∙ ap (publishedPlan b (subscriberPort msg)) (fields-are msg r h)
+        ∙ ap (λ (sub : Bytes). publishedPlan sub (subscriberPort msg) (fieldsOf msg)) b-is
 
 -- ---- a message that is accepted
 -- the call x hands in the message msg, whose effect is e
@@ -102,7 +149,6 @@ pub record Message (c : Client) (x : Call) (msg : Bytes) (e : Effect) : Type 0 w
   pub bytes : acceptedBytes (view c) x ≡ []
   pub taken : Taken c e
   pub carries : Carries e (frameAt 0 msg) (frameAt 4 msg)
-  pub frames : (k : ℕ) → k < 5 → bodyAt k msg ≡ frameAt k msg
 
 -- by the word in front
 module _ (f : Fields) where
@@ -155,12 +201,12 @@ module _ (f : Fields) where
     published-carries = published (λ (e : Effect). Carries e (f .head) (f .value)) tt tt tt (refl, refl)
 
 module _ (c : Client) (z : SizedTable (c .table)) (msg : Bytes) where
-  snapshot-message : firstOf (illFormsOf c ++ entryTable c Snapshot msg 0) ≡ none → Message c (snapshot msg) msg (snapshotEffect (fieldsOf msg))
+  pub snapshot-message : firstOf (snapshotTable c msg) ≡ none → Message c (snapshot msg) msg (snapshotEffect (fieldsOf msg))
   unfolding acceptedNext acceptedBytes view
   snapshot-message e =
       let f = fieldsOf msg in
       let behind = effectChecks (not (isWaiting (c .header .phase))) (heldIn c) (c .table .count) (snapshotEffect (fieldsOf msg)) in
-      let a = both-passed (illFormsOf c) (entryTable c Snapshot msg 0) e in
+      let a = both-passed (illFormsOf c) (snapshotPort (subtreeOf c) msg ++ behind) e in
       let b = both-passed (snapshotPort (subtreeOf c) msg) behind (a .1) in
       let d = both-passed (framed 5 msg) (snapshotChecks (subtreeOf c) f) (b .0) in
       record {
@@ -176,17 +222,16 @@ module _ (c : Client) (z : SizedTable (c .table)) (msg : Bytes) where
           room = passed 1 behind (b .1);
         };
         carries = snapshot-carries f;
-        frames = port-frame 5 msg (snapshotChecks (subtreeOf c) f) (b .0);
       }
 
-  subscriber-message : (t : ℕ) → firstOf (illFormsOf c ++ entryTable c Subscriber msg t) ≡ none
+  pub subscriber-message : (t : ℕ) → firstOf (subscriberTable c msg t) ≡ none
       → Message c (subscriber msg t) msg (subscriberEffect (c .header .number .0) (subtreeOf c) (fieldsOf msg) t)
   unfolding acceptedNext acceptedBytes view
   subscriber-message t e =
       let f = fieldsOf msg in
       let effect = subscriberEffect (c .header .number .0) (subtreeOf c) (fieldsOf msg) t in
       let behind = effectChecks (isWaiting (c .header .phase)) (heldIn c) (c .table .count) effect in
-      let a = both-passed (illFormsOf c) (entryTable c Subscriber msg t) e in
+      let a = both-passed (illFormsOf c) (subscriberPort msg ++ (timeChecks (c .header .clock .0) f t ++ behind)) e in
       let b = both-passed (subscriberPort msg) (timeChecks (c .header .clock .0) f t ++ behind) (a .1) in
       let d = both-passed (framed 5 msg) (publishedChecks f) (b .0) in
       let g = both-passed (timeChecks (c .header .clock .0) f t) behind (b .1) in
@@ -203,37 +248,7 @@ module _ (c : Client) (z : SizedTable (c .table)) (msg : Bytes) where
           room = passed 1 behind (g .1);
         };
         carries = published-carries f (c .header .number .0) (subtreeOf c) t;
-        frames = port-frame 5 msg (publishedChecks f) (b .0);
       }
-
--- what is known of the row that it stores, and of the frames that hold it
-module _ (c : Client) (x : Call) (msg : Bytes) (e : Effect) (m : Message c x msg e) (z : SizedTable (c .table)) (change : Change) (h : Header) (k : Kind)
-    (p : planBy (c .header) (tableKeys (c .table)) e ≡ Store change h k) where
-  pub message-row : RowKnown c change (frameAt 0 msg) (frameAt 4 msg)
-  message-row = row-known c z change h k (frameAt 0 msg) (frameAt 4 msg) e (m .taken) (m .carries) p
-
-  pub key-fits : {key : Bytes} → key ≡ bodyAt 0 msg → length key ≤ 96
-  key-fits e = rw (e, m .frames 0 (omega arith)) (key-short (frameAt 0 msg) (message-row .key-good))
-
-  pub value-fits : {value : Bytes} → value ≡ bodyAt 4 msg → length value ≤ 256
-  value-fits e = rw (e, m .frames 4 (omega arith)) (message-row .value-short)
-
--- ---- either entry
-module _ (c : Client) (z : SizedTable (c .table)) (msg : Bytes) (t : ℕ) where
-  pub entry-refusal : (e : Entry) → firstOf (illFormsOf c ++ entryTable c e msg t) ≡ refusalOf c (received e msg t)
-  entry-refusal Snapshot = snapshot-refusal c z msg
-  entry-refusal Subscriber = subscriber-refusal c z msg t
-
-  pub entry-message : (e : Entry) → firstOf (illFormsOf c ++ entryTable c e msg t) ≡ none → Message c (received e msg t) msg (effectAt c e msg t)
-  entry-message Snapshot h = snapshot-message c z msg h
-  entry-message Subscriber h = subscriber-message c z msg t h
-
--- the plan, made with the part of the subtree's array that counts
-pub entry-planned : (c : Client) (b msg : Bytes) (t : ℕ) (e : Entry) → b ≡ subtreeOf c → {plan : Plan}
-    → plan ≡ planOf (firstOf (illForms (c .table .keys) (c .table .«key_lengths») (c .table .«value_lengths») (c .table .count) b (c .«subtree_length») (c .header) ++ entryChecks e (c .header) b (heldIn c) (c .table .count) msg t)) (planBy (c .header) (tableKeys (c .table)) (entryEffect e (c .header .number .0) b (fieldsOf msg) t))
-    → plan ≡ planOf (firstOf (illFormsOf c ++ entryTable c e msg t)) (planBy (c .header) (tableKeys (c .table)) (effectAt c e msg t))
-unfolding illFormsOf
-entry-planned c b msg t e b-is p = rw (← b-is) p
 
 -- ---- what a plan says of the checks and of the effect
 module _ (x : Option Refusal) (h : Header) (keys : List Bytes) (e : Effect) {plan : Plan} (is : plan ≡ planOf x (planBy h keys e)) where
@@ -267,24 +282,59 @@ module _ (x : Option Refusal) (h : Header) (keys : List Bytes) (e : Effect) {pla
       go (some s) q = clash cc
 
 -- ---- and what is then done
-module _ (c : Client) (x : Call) (msg : Bytes) (e : Effect) (m : Message c x msg e) (r : Reply) (h : Header) (k : Kind) (told : r .answer ≡ answer k 0) where
-  done : k ≡ effectKind (c .header .number .0) e → view (r .state) ≡ effectNext (view c) e → GoodClient (r .state) → Answered c x [] (r .state) (r .answer) []
+module _ (c : Client) (x : Call) (msg : Bytes) (e : Effect) (m : Message c x msg e) (c′ : Client) {a : Answer} (h : Header) (k : Kind) (told : a ≡ answer k 0) where
+  done : k ≡ effectKind (c .header .number .0) e → view c′ ≡ effectNext (view c) e → GoodClient c′ → Answered c x [] c′ a []
   unfolding put
   done kind-is view-is good =
-      accepted-call c x [] (r .state) [] (m .accepted) (told ∙ rw (m .kind, m .bytes, kind-is)) (view-is ∙ sym (m .next)) (rw (m .bytes)) (λ w. client-good (r .state) good)
+      accepted-call c x [] c′ [] (m .accepted) (told ∙ rw (m .kind, m .bytes, kind-is)) (view-is ∙ sym (m .next)) (rw (m .bytes)) (λ w. client-good c′ good)
 
-  pub message-noted : planBy (c .header) (tableKeys (c .table)) e ≡ Note h k → r .state ≡ noted c h k → Answered c x [] (r .state) (r .answer) []
+  message-noted : planBy (c .header) (tableKeys (c .table)) e ≡ Note h k → c′ ≡ noted c h k → Answered c x [] c′ a []
   message-noted p state-is =
       done (noted-kind c h k e p) (ap view state-is ∙ noted-view c h k e p) (rw state-is (noted-good c h k e (m .taken) p))
 
-  pub message-stored : (z : SizedTable (c .table)) (change : Change) → planBy (c .header) (tableKeys (c .table)) e ≡ Store change h k → {i j : ℕ} {keyCell valueCell : Bytes} → Altered change i j keyCell valueCell (c .table) (r .state .table) → r .state .subtree ≡ c .subtree
-      → r .state .«subtree_length» ≡ c .«subtree_length» → r .state .header ≡ h
-      → take i keyCell ≡ frameAt 0 msg → i ≡ length (frameAt 0 msg) → take j valueCell ≡ frameAt 4 msg → j ≡ length (frameAt 4 msg) → Answered c x [] (r .state) (r .answer) []
-  message-stored z change p columns subtree-is long header-is key-is i-is value-is j-is =
-      let s : subtreeOf (r .state) ≡ subtreeOf c = rw (subtree-is, long) in
+  message-stored : (z : SizedTable (c .table)) (change : Change) → planBy (c .header) (tableKeys (c .table)) e ≡ Store change h k → Stored change (frameAt 0 msg) (frameAt 4 msg) (c .table) (c′ .table)
+      → c′ .subtree ≡ c .subtree → c′ .«subtree_length» ≡ c .«subtree_length» → c′ .header ≡ h → Answered c x [] c′ a []
+  message-stored z change p d subtree-is long header-is =
+      let s : subtreeOf c′ ≡ subtreeOf c = rw (subtree-is, long) in
       let key = frameAt 0 msg in
       let value = frameAt 4 msg in
       let w = m .carries in
-      done (stored-kind c z change h k key value (r .state) columns s header-is key-is i-is value-is j-is e p)
-      (stored-view c z change h k key value (r .state) columns s header-is key-is i-is value-is j-is e (m .taken) w p)
-      (stored-good c z change h k key value (r .state) columns s header-is key-is i-is value-is j-is e (m .taken) w p long)
+      let r = d .holds in
+      done (stored-kind c z change h k key value c′ (d .altered) s header-is (r .key) (r .key-length) (r .value) (r .value-length) e p)
+      (stored-view c z change h k key value c′ (d .altered) s header-is (r .key) (r .key-length) (r .value) (r .value-length) e (m .taken) w p)
+      (stored-good c z change h k key value c′ (d .altered) s header-is (r .key) (r .key-length) (r .value) (r .value-length) e (m .taken) w p long)
+
+-- ---- a call whose checks come to its refusal, whose message is known where it passes them, and the plan that is made of it
+module _ (c : Client) (z : SizedTable (c .table)) (x : Call) (msg : Bytes) (e : Effect) (checks : List (Check Refusal)) (refusal : firstOf checks ≡ refusalOf c x)
+    (message : firstOf checks ≡ none → Message c x msg e) {plan : Plan} (is : plan ≡ planOf (firstOf checks) (planBy (c .header) (tableKeys (c .table)) e))
+    {key value : Bytes} (key-is : key ≡ frameAt 0 msg) (value-is : value ≡ frameAt 4 msg) where
+  -- a row can be stored
+  pub storable : Storable plan (c .table .count) key value
+  unfolding Storable
+  storable = rw (key-is, value-is) (go plan refl)
+    where
+      go : (p : Plan) → plan ≡ p → Storable p (c .table .count) (frameAt 0 msg) (frameAt 4 msg)
+      go (Refuse r) q = tt
+      go (Note after kind) q = tt
+      go (Store change after kind) q =
+          let s = plan-stored (firstOf checks) (c .header) (tableKeys (c .table)) e is q in
+          let m = message (s .0) in
+          let k = row-known c z change after kind (frameAt 0 msg) (frameAt 4 msg) e (m .taken) (m .carries) (s .1) in
+          (k .fits, (key-short (frameAt 0 msg) (k .key-good), k .value-short))
+
+  -- carried out, the plan is what the call is to do
+  pub carried : (t′ : Table) (o : Outcome) → CarriedOut plan (c .header) key value (c .table) t′ o
+      → Answered c x [] (record { table = t′; subtree = c .subtree; «subtree_length» = c .«subtree_length»; header = o .header }) (o .answer) []
+  unfolding CarriedOut
+  carried t′ o = go plan refl
+    where
+      go : (p : Plan) → plan ≡ p → CarriedOut p (c .header) key value (c .table) t′ o
+          → Answered c x [] (record { table = t′; subtree = c .subtree; «subtree_length» = c .«subtree_length»; header = o .header }) (o .answer) []
+      go (Refuse r) q d =
+          refused-call c x [] _ (sym refusal ∙ plan-refused (firstOf checks) (c .header) (tableKeys (c .table)) e is q) (rw (d .0, d .1 .0)) (d .1 .1)
+      go (Note after kind) q d =
+          let s = plan-noted (firstOf checks) (c .header) (tableKeys (c .table)) e is q in
+          message-noted c x msg e (message (s .0)) _ after kind (d .1 .1) (s .1) (rw (d .0, d .1 .0))
+      go (Store change after kind) q d =
+          let s = plan-stored (firstOf checks) (c .header) (tableKeys (c .table)) e is q in
+          message-stored c x msg e (message (s .0)) _ after kind (d .1 .1) z change (s .1) (rw (key-is, value-is) at (d .0)) refl refl (d .1 .0)

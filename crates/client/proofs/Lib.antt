@@ -1,3 +1,4 @@
+pub mod CarryLaws
 pub mod EffectLaws
 pub mod EntryLaws
 pub mod RunLaws

@@ -4,7 +4,7 @@
 use answers::answer::Answer;
 use client_state::Client;
 
-mod receive;
+mod carry;
 pub mod snapshot;
 pub mod start;
 pub mod subscriber;

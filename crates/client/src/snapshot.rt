@@ -1,11 +1,14 @@
 // The snapshot entry: KTHXBAI, or else KVSYNC.
 use crate::Reply;
-use crate::receive;
+use crate::carry;
 use client_plan::Outcome;
-use client_plan::receive::Entry;
+use client_plan::snapshot;
 use client_state::Client;
 use client_state::Header;
-use names::numbers::Tick;
+use client_state::subtree;
+use messages::HEAD;
+use messages::VALUE;
+use table::Table;
 ghost use mathlib.Core.List.{[]};
 ghost use Rattle.client_plan.specs.Calls.{snapshot as handed};
 ghost use Rattle.client_plan.specs.Lent.{lent};
@@ -25,18 +28,32 @@ pub fn snapshot_lent<'a>(
 ) -> Outcome
     ensures { λ r. ⌜ Answered (lent (now (keys .entry)) (now (values .entry)) (now («key_lengths» .entry)) (now («value_lengths» .entry)) count (now (subtree .entry)) «subtree_length» header) (handed (now (msg .entry))) [] (lent (now (keys .exit)) (now (values .exit)) (now («key_lengths» .exit)) (now («value_lengths» .exit)) (r .count) (now (subtree .entry)) «subtree_length» (r .header)) (r .answer) [] ⌝ }
 {
-    receive::receive_lent(
+    // As slices the columns tell how many they hold.
+    let value_bytes: &[u8] = values;
+    let key_column: &[u64] = key_lengths;
+    let value_column: &[u64] = value_lengths;
+    let split = framing::split_message(msg);
+    let plan = snapshot::plan_snapshot(
+        keys,
+        key_lengths,
+        value_lengths,
+        count,
+        subtree::subtree_in(subtree, subtree_length),
+        subtree_length,
+        header,
+        msg,
+        split,
+    );
+    carry::carry_out(
         keys,
         values,
         key_lengths,
         value_lengths,
         count,
-        subtree,
-        subtree_length,
         header,
-        Entry::Snapshot,
-        msg,
-        Tick(0),
+        plan,
+        framing::body(msg, split.places, HEAD),
+        framing::body(msg, split.places, VALUE),
     )
 }
 
@@ -44,5 +61,38 @@ pub fn snapshot_lent<'a>(
 pub fn snapshot(c: Client, msg: &[u8]) -> Reply
     ensures { λ r. ⌜ Answered c (handed (now (msg .entry))) [] (r .state) (r .answer) [] ⌝ }
 {
-    receive::receive(c, Entry::Snapshot, msg, Tick(0))
+    let mut keys = c.table.keys;
+    let mut values = c.table.values;
+    let mut key_lengths = c.table.key_lengths;
+    let mut value_lengths = c.table.value_lengths;
+    let subtree = c.subtree;
+    let subtree_length = c.subtree_length;
+    let r = snapshot_lent(
+        &mut keys,
+        &mut values,
+        &mut key_lengths,
+        &mut value_lengths,
+        c.table.count,
+        &subtree,
+        subtree_length,
+        c.header,
+        msg,
+    );
+    let header = r.header;
+    let answer = r.answer;
+    Reply {
+        state: Client {
+            table: Table {
+                keys,
+                values,
+                key_lengths,
+                value_lengths,
+                count: r.count,
+            },
+            subtree,
+            subtree_length,
+            header,
+        },
+        answer,
+    }
 }

@@ -1,11 +1,15 @@
 // The subscriber entry: HUGZ, or else KVPUB.
 use crate::Reply;
-use crate::receive;
+use crate::carry;
 use client_plan::Outcome;
-use client_plan::receive::Entry;
+use client_plan::subscriber;
 use client_state::Client;
 use client_state::Header;
+use client_state::subtree;
+use messages::HEAD;
+use messages::VALUE;
 use names::numbers::Tick;
+use table::Table;
 ghost use mathlib.Core.List.{[]};
 ghost use Rattle.client_plan.specs.Calls.{subscriber as handed};
 ghost use Rattle.client_plan.specs.Lent.{lent};
@@ -26,18 +30,33 @@ pub fn subscriber_lent<'a>(
 ) -> Outcome
     ensures { λ r. ⌜ Answered (lent (now (keys .entry)) (now (values .entry)) (now («key_lengths» .entry)) (now («value_lengths» .entry)) count (now (subtree .entry)) «subtree_length» header) (handed (now (msg .entry)) (tick .0)) [] (lent (now (keys .exit)) (now (values .exit)) (now («key_lengths» .exit)) (now («value_lengths» .exit)) (r .count) (now (subtree .entry)) «subtree_length» (r .header)) (r .answer) [] ⌝ }
 {
-    receive::receive_lent(
+    // As slices the columns tell how many they hold.
+    let value_bytes: &[u8] = values;
+    let key_column: &[u64] = key_lengths;
+    let value_column: &[u64] = value_lengths;
+    let split = framing::split_message(msg);
+    let plan = subscriber::plan_subscriber(
+        keys,
+        key_lengths,
+        value_lengths,
+        count,
+        subtree::subtree_in(subtree, subtree_length),
+        subtree_length,
+        header,
+        msg,
+        split,
+        tick,
+    );
+    carry::carry_out(
         keys,
         values,
         key_lengths,
         value_lengths,
         count,
-        subtree,
-        subtree_length,
         header,
-        Entry::Subscriber,
-        msg,
-        tick,
+        plan,
+        framing::body(msg, split.places, HEAD),
+        framing::body(msg, split.places, VALUE),
     )
 }
 
@@ -45,5 +64,39 @@ pub fn subscriber_lent<'a>(
 pub fn subscriber(c: Client, msg: &[u8], tick: Tick) -> Reply
     ensures { λ r. ⌜ Answered c (handed (now (msg .entry)) (tick .0)) [] (r .state) (r .answer) [] ⌝ }
 {
-    receive::receive(c, Entry::Subscriber, msg, tick)
+    let mut keys = c.table.keys;
+    let mut values = c.table.values;
+    let mut key_lengths = c.table.key_lengths;
+    let mut value_lengths = c.table.value_lengths;
+    let subtree = c.subtree;
+    let subtree_length = c.subtree_length;
+    let r = subscriber_lent(
+        &mut keys,
+        &mut values,
+        &mut key_lengths,
+        &mut value_lengths,
+        c.table.count,
+        &subtree,
+        subtree_length,
+        c.header,
+        msg,
+        tick,
+    );
+    let header = r.header;
+    let answer = r.answer;
+    Reply {
+        state: Client {
+            table: Table {
+                keys,
+                values,
+                key_lengths,
+                value_lengths,
+                count: r.count,
+            },
+            subtree,
+            subtree_length,
+            header,
+        },
+        answer,
+    }
 }

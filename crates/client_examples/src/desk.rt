@@ -7,7 +7,6 @@ use client_queries::ask;
 use client_queries::lookup;
 use client_queries::write;
 use client_state::Client;
-use frames::read;
 use messages::identity;
 use names::numbers::Tick;
 
@@ -48,7 +47,7 @@ pub(crate) fn take_all(start: Client, desk: &[u8], run: &[u8]) -> Client {
     let mut c = start;
     let mut at = 0;
     while at < run.len() {
-        let msg = read::first_message(&run[at..]);
+        let msg = framing::first_message(&run[at..]);
         if msg.len() == 0 {
             return c;
         }

@@ -4,7 +4,6 @@ use base::bytes;
 use base::output;
 use client::subscriber;
 use client_state::Client;
-use frames::read;
 use messages::HEAD;
 use messages::identity;
 use names::numbers::Sequence;
@@ -124,7 +123,8 @@ pub(crate) fn tell(mut s: Studio, at: u64) -> Studio {
 fn head(msg: &[u8]) {
     if 0 < msg.len() {
         print::text(b"  which publishes ");
-        print::text(read::body(msg, HEAD));
+        let split = framing::split_message(msg);
+        print::text(framing::body(msg, split.places, HEAD));
         print::text(b"\n");
     }
 }

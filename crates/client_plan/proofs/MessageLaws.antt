@@ -1,24 +1,21 @@
 -- What a message is known to have whose frames a client's port lets pass. Assumes nothing.
 use Prim.Native.Nat.{ℕ, _≤_}
-use native.Mathlib.Omega.{arith}
 use mathlib.Core.Bool.{Bool, true, false, cond}
 use mathlib.Core.Option.{none}
-use mathlib.Core.Path.{_≡_, refl, ap, _∙_}
+use mathlib.Core.Path.{_≡_, refl}
 use lib.Dec.{leb}
 use lib.ListN.{length}
 use borrow.Author.Tests.{leb-true, not-false}
-use Rattle.base.proofs.CheckLaws.{passed, both-passed}
+use Rattle.base.proofs.CheckLaws.{passed}
 use Rattle.base.specs.Bytes.{Bytes, isNil, same}
 use Rattle.base.specs.Checks.{firstOf}
 use Rattle.base.specs.Octets.{number}
 use Rattle.client_plan.specs.Effects.{Effect, sync, finish, hear, stale, outside, apply, snapshotEffect, updateEffect, subscriberEffect}
-use Rattle.frames.specs.Messages.{bodyAt}
-use Rattle.messages.specs.Fields.{Fields, fieldsOf}
+use Rattle.messages.specs.Fields.{Fields}
 use Rattle.names.specs.Keys.{isKey, under}
-use Rattle.names.specs.Numbers.{maxSequence, isSequence}
+use Rattle.names.specs.Numbers.{maxSequence}
 use Rattle.names.specs.Words.{wordKthxbai, wordHugz}
-use Rattle.ports.proofs.PortLaws.{port-frame}
-use Rattle.ports.specs.Ports.{framed, kvsyncChecks, kthxbaiChecks, snapshotChecks, snapshotPort, kvpubChecks, hugzChecks, publishedChecks, subscriberPort}
+use Rattle.ports.specs.Ports.{kvsyncChecks, kthxbaiChecks, snapshotChecks, kvpubChecks, hugzChecks, publishedChecks}
 
 -- what is known of an effect, at a client of a subtree, by the frames alone
 abbrev pub Sound : Bytes → Effect → Type 0
@@ -46,13 +43,6 @@ module _ (subtree : Bytes) (f : Fields) where
       go true h = thanks-sound h
       go false h = sync-sound h
 
-  pub snapshot-numbered : firstOf (snapshotChecks subtree f) ≡ none → isSequence (f .sequence) ≡ true
-  snapshot-numbered e = go (same wordKthxbai (f .head)) e
-    where
-      go : (t : Bool) → firstOf (cond t (kthxbaiChecks subtree f) (kvsyncChecks subtree f)) ≡ none → isSequence (f .sequence) ≡ true
-      go true h = not-false _ (passed 1 (kthxbaiChecks subtree f) h)
-      go false h = not-false _ (passed 2 (kvsyncChecks subtree f) h)
-
 -- ---- at the subscriber entry
 module _ (f : Fields) where
   update-sound : (n : ℕ) (subtree : Bytes) → firstOf (kvpubChecks f) ≡ none → Sound subtree (updateEffect n subtree f)
@@ -73,21 +63,3 @@ module _ (f : Fields) where
       go : (b : Bool) → firstOf (cond b (hugzChecks f) (kvpubChecks f)) ≡ none → Sound subtree (cond b (hear t) (updateEffect n subtree f))
       go true h = tt
       go false h = update-sound n subtree h
-
-  pub published-numbered : firstOf (publishedChecks f) ≡ none → isSequence (f .sequence) ≡ true
-  published-numbered e = go (same wordHugz (f .head)) e
-    where
-      go : (b : Bool) → firstOf (cond b (hugzChecks f) (kvpubChecks f)) ≡ none → isSequence (f .sequence) ≡ true
-      go true h = not-false _ (passed 0 (hugzChecks f) h)
-      go false h = not-false _ (passed 1 (kvpubChecks f) h)
-
--- ---- the sequence frame, as the code finds it
-pub snapshot-sequence : (subtree msg : Bytes) → firstOf (snapshotPort subtree msg) ≡ none → isSequence (bodyAt 1 msg) ≡ true
-snapshot-sequence subtree msg e =
-    ap isSequence (port-frame 5 msg (snapshotChecks subtree (fieldsOf msg)) e 1 (omega arith))
-    ∙ snapshot-numbered subtree (fieldsOf msg) (both-passed (framed 5 msg) (snapshotChecks subtree (fieldsOf msg)) e .1)
-
-pub published-sequence : (msg : Bytes) → firstOf (subscriberPort msg) ≡ none → isSequence (bodyAt 1 msg) ≡ true
-published-sequence msg e =
-    ap isSequence (port-frame 5 msg (publishedChecks (fieldsOf msg)) e 1 (omega arith))
-    ∙ published-numbered (fieldsOf msg) (both-passed (framed 5 msg) (publishedChecks (fieldsOf msg)) e .1)

@@ -26,11 +26,14 @@ pub data Effect : Type 0 where
 abbrev pub snapshotEffect : Fields → Effect
 snapshotEffect f = cond (same wordKthxbai (f .head)) (finish (number (f .sequence))) (sync (f .head) (f .value))
 
--- a KVPUB: the number is looked at first, and then whether the key is under the subtree. Of a client's number and subtree
+-- an update of a number, a key and a value: the number is looked at first, and then whether the key is under the subtree. Of a client's
+-- number and subtree
+abbrev pub updateBy : ℕ → Bytes → ℕ → Bytes → Bytes → Effect
+updateBy n subtree m key value = cond (leb m n) stale (cond (under subtree key) (apply m key value) (outside m))
+
+-- a KVPUB
 abbrev pub updateEffect : ℕ → Bytes → Fields → Effect
-updateEffect n subtree f =
-    cond (leb (number (f .sequence)) n) stale
-    (cond (under subtree (f .head)) (apply (number (f .sequence)) (f .head) (f .value)) (outside (number (f .sequence))))
+updateEffect n subtree f = updateBy n subtree (number (f .sequence)) (f .head) (f .value)
 
 -- at the subscriber entry: HUGZ, which alone uses the tick and has no number, or else KVPUB
 abbrev pub subscriberEffect : ℕ → Bytes → Fields → ℕ → Effect

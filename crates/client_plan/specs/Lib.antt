@@ -1,7 +1,6 @@
 pub mod Answers
 pub mod Calls
 pub mod Effects
-pub mod Entries
 pub mod Lent
 pub mod Next
 pub mod Output

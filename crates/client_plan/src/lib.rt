@@ -4,9 +4,8 @@ use answers::answer::Answer;
 use client_state::Header;
 
 pub mod plan;
-pub mod receive;
-mod snapshot;
-mod subscriber;
+pub mod snapshot;
+pub mod subscriber;
 
 // What a call leaves of a state whose columns are lent: how many rows they hold, the header, and what the call answers. No call changes the subtree.
 pub struct Outcome {

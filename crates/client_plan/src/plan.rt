@@ -2,17 +2,12 @@
 use answers::answer::Kind;
 use answers::refusal::Refusal;
 use client_state::Header;
-use names::numbers;
-use names::numbers::Numbered;
-use names::numbers::Sequence;
 use table::change;
 use table::change::Change;
 use table::find;
 ghost use mathlib.Core.Bool.{true};
 ghost use mathlib.Core.Path.{_≡_};
 ghost use Prim.Native.Nat.{_≤_};
-ghost use Rattle.base.specs.Octets.{number};
-ghost use Rattle.names.specs.Numbers.{sequence, isSequence};
 ghost use Rattle.rows.specs.Rows.{rising};
 ghost use Rattle.table.specs.Columns.{texts, lengthsFit};
 ghost use Rattle.table.specs.Find.{placeOf, changeTo};
@@ -23,17 +18,6 @@ pub enum Plan {
     Refuse(Refusal),
     Note(Header, Kind),
     Store(Change, Header, Kind),
-}
-
-// The number in a sequence frame of eight octets.
-pub(crate) fn number_in(body: &[u8]) -> Sequence
-    requires { ⌜ isSequence (now body) ≡ true ⌝ }
-    ensures { λ r. ⌜ r ≡ sequence (number (now (body .entry))) ⌝ }
-{
-    let Numbered::By(n) = numbers::read_sequence(body) else {
-        return Sequence(0);
-    };
-    n
 }
 
 // A row is set, or removed, unless it would be one too many.

@@ -3,7 +3,8 @@ use crate::bare::check_bare;
 use answers::refusal::Refusal;
 use answers::refusal::Verdict;
 use base::bytes;
-use frames::read;
+use framing::Places;
+use framing::Split;
 use messages::FRAMES;
 use messages::HEAD;
 use messages::SEQUENCE;
@@ -12,13 +13,22 @@ use names::keys;
 use names::lengths;
 use names::numbers;
 use names::numbers::Numbered;
+use names::numbers::Sequence;
 use names::words;
-use ports::framing::check_framing;
+use ports::frame_count::check_framing;
 ghost use mathlib.Core.Path.{_≡_};
-ghost use Rattle.base.specs.Checks.{firstOf};
 ghost use Rattle.answers.specs.Refusals.{verdict};
-ghost use Rattle.ports.specs.Bodies.{bodiesOf};
-ghost use Rattle.ports.specs.Ports.{heldChecks, kvsyncChecks, kthxbaiChecks, snapshotChecks, snapshotPort};
+ghost use Rattle.base.specs.Checks.{firstOf};
+ghost use Rattle.client_ports.specs.Readings.{endOf, sentOf};
+ghost use Rattle.ports.specs.Bodies.{fieldsAt, snapshotBy};
+ghost use Rattle.ports.specs.Ports.{heldChecks, kvsyncChecks, kthxbaiChecks, snapshotChecks};
+
+// What a message of a snapshot is: it is refused, it is the end with the server's number, or it is a row.
+pub enum Sent {
+    Refuse(Refusal),
+    Kthxbai(Sequence),
+    Kvsync,
+}
 
 // The value of a row that is held.
 fn check_held(value: &[u8]) -> Verdict
@@ -34,57 +44,64 @@ fn check_held(value: &[u8]) -> Verdict
 }
 
 // The frames of a KVSYNC in the snapshot of a subtree.
-fn check_kvsync_frames(msg: &[u8], subtree: &[u8]) -> Verdict
-    ensures { λ r. ⌜ r ≡ verdict (firstOf (kvsyncChecks (now (subtree .entry)) (bodiesOf (now (msg .entry))))) ⌝ }
+fn check_kvsync_frames(msg: &[u8], places: Places, subtree: &[u8]) -> Verdict
+    ensures { λ r. ⌜ r ≡ verdict (firstOf (kvsyncChecks (now (subtree .entry)) (fieldsAt (now (msg .entry)) places))) ⌝ }
 {
-    let key = read::body(msg, HEAD);
+    let key = framing::body(msg, places, HEAD);
     if !keys::is_key(key) {
         return Verdict::Refuse(Refusal::BadKey);
     }
     if !keys::is_under(subtree, key) {
         return Verdict::Refuse(Refusal::BadSubtree);
     }
-    let Numbered::By(_) = numbers::read_sequence(read::body(msg, SEQUENCE)) else {
+    let Numbered::By(_) = numbers::read_sequence(framing::body(msg, places, SEQUENCE)) else {
         return Verdict::Refuse(Refusal::BadSequence);
     };
-    match check_bare(msg) {
+    match check_bare(msg, places) {
         Verdict::Refuse(r) => Verdict::Refuse(r),
-        Verdict::Accept => check_held(read::body(msg, VALUE)),
+        Verdict::Accept => check_held(framing::body(msg, places, VALUE)),
     }
 }
 
 // The frames of a KTHXBAI at the end of the snapshot of a subtree.
-fn check_kthxbai_frames(msg: &[u8], subtree: &[u8]) -> Verdict
-    ensures { λ r. ⌜ r ≡ verdict (firstOf (kthxbaiChecks (now (subtree .entry)) (bodiesOf (now (msg .entry))))) ⌝ }
+fn read_kthxbai_frames(msg: &[u8], places: Places, subtree: &[u8]) -> Sent
+    ensures { λ r. ⌜ r ≡ endOf (fieldsAt (now (msg .entry)) places) (firstOf (kthxbaiChecks (now (subtree .entry)) (fieldsAt (now (msg .entry)) places))) ⌝ }
 {
-    if !bytes::same_bytes(subtree, read::body(msg, VALUE)) {
-        return Verdict::Refuse(Refusal::BadSubtree);
+    if !bytes::same_bytes(subtree, framing::body(msg, places, VALUE)) {
+        return Sent::Refuse(Refusal::BadSubtree);
     }
-    let Numbered::By(n) = numbers::read_sequence(read::body(msg, SEQUENCE)) else {
-        return Verdict::Refuse(Refusal::BadSequence);
+    let Numbered::By(n) = numbers::read_sequence(framing::body(msg, places, SEQUENCE)) else {
+        return Sent::Refuse(Refusal::BadSequence);
     };
     if !numbers::is_kept(n) {
-        return Verdict::Refuse(Refusal::BadSequence);
+        return Sent::Refuse(Refusal::BadSequence);
     }
-    check_bare(msg)
+    match check_bare(msg, places) {
+        Verdict::Refuse(r) => Sent::Refuse(r),
+        Verdict::Accept => Sent::Kthxbai(n),
+    }
 }
 
 // The frames of a KTHXBAI, or else of a KVSYNC.
-fn check_snapshot_frames(msg: &[u8], subtree: &[u8]) -> Verdict
-    ensures { λ r. ⌜ r ≡ verdict (firstOf (snapshotChecks (now (subtree .entry)) (bodiesOf (now (msg .entry))))) ⌝ }
+fn read_sent_frames(msg: &[u8], places: Places, subtree: &[u8]) -> Sent
+    ensures { λ r. ⌜ r ≡ sentOf (fieldsAt (now (msg .entry)) places) (firstOf (snapshotChecks (now (subtree .entry)) (fieldsAt (now (msg .entry)) places))) ⌝ }
 {
-    if words::is_kthxbai(read::body(msg, HEAD)) {
-        return check_kthxbai_frames(msg, subtree);
+    if words::is_kthxbai(framing::body(msg, places, HEAD)) {
+        return read_kthxbai_frames(msg, places, subtree);
     }
-    check_kvsync_frames(msg, subtree)
+    match check_kvsync_frames(msg, places, subtree) {
+        Verdict::Refuse(r) => Sent::Refuse(r),
+        Verdict::Accept => Sent::Kvsync,
+    }
 }
 
 // The client's port for snapshots of its subtree: KTHXBAI, or else KVSYNC.
-pub fn check_snapshot(msg: &[u8], subtree: &[u8]) -> Verdict
-    ensures { λ r. ⌜ r ≡ verdict (firstOf (snapshotPort (now (subtree .entry)) (now (msg .entry)))) ⌝ }
+pub fn read_sent(msg: &[u8], split: Split, subtree: &[u8]) -> Sent
+    ensures { λ r. ⌜ r ≡ sentOf (fieldsAt (now (msg .entry)) (split .places)) (firstOf (snapshotBy (now (subtree .entry)) (now (msg .entry)) split)) ⌝ }
 {
-    match check_framing(msg, FRAMES) {
-        Verdict::Refuse(r) => Verdict::Refuse(r),
-        Verdict::Accept => check_snapshot_frames(msg, subtree),
+    let framing = split.framing;
+    match check_framing(framing, FRAMES) {
+        Verdict::Refuse(r) => Sent::Refuse(r),
+        Verdict::Accept => read_sent_frames(msg, split.places, subtree),
     }
 }

@@ -10,11 +10,11 @@ use Rattle.client_plan.specs.Output.{acceptedBytes as clientWrites}
 use Rattle.client_plan.specs.Refusals.{callChecks as clientChecks}
 use Rattle.edges.specs.Edges.{many, key, clientRows, serverRows, table, Edges}
 use Rattle.edges.specs.Outcomes.{Holds}
-use Rattle.frames.specs.Messages.{readUpTo, framesIn, frame, encode}
+use Rattle.frames.specs.Messages.{readUpTo, framesIn, frame, encode, frameAt}
 use Rattle.frames.specs.Runs.{joined}
 use Rattle.frames.specs.Steps.{shortOf, longOf, flagged, stepOf}
 use Rattle.joining.specs.Ends.{serverRefusal, serverNext, serverBytes, serverAnswer, clientStart, clientRefusal, clientNext, clientBytes, clientAnswer}
-use Rattle.messages.specs.Fields.{bytesOf, frameAt}
+use Rattle.messages.specs.Fields.{bytesOf}
 use Rattle.names.specs.Keys.{isKey, isSubtree}
 use Rattle.names.specs.Order.{orderOf}
 use Rattle.properties.specs.Decimals.{decimalFrom, decimalOf}

@@ -1,10 +1,10 @@
-// Reading a message from a place in it: a reader holds the lent message and the place, so that one value says what is read next.
-// The borrow checker covers no function over a reader, so each takes one apart or makes one and calls another; callers that want no walk use frame_at and body_at.
-use frames::read;
+// Reading a message frame by frame: a reader holds the lent message and a place in it, so that one value says what is
+// read next. The borrow checker covers no function over a reader, so each takes one apart or makes one and calls another.
+// Every walk goes by frame_at, which makes a reader and asks it.
 use frames::step;
 use frames::step::Step;
 ghost use mathlib.Core.Path.{_≡_};
-ghost use Rattle.frame_reader.specs.Places.{stepAt, bodyFrom};
+ghost use Rattle.frame_reader.specs.Places.{stepAt};
 
 // A message and a place in it.
 pub struct Reader<'a> {
@@ -12,24 +12,14 @@ pub struct Reader<'a> {
     pub at: usize,
 }
 
-// The frame at a place of a message; its start counts from that place. Broken at the end of the message or past it.
-pub fn frame_from(s: &[u8], at: usize) -> Step
+// The frame at a place of some bytes; its start counts from that place. Broken at the end of the bytes or past it.
+fn frame_from(s: &[u8], at: usize) -> Step
     ensures { λ r. ⌜ r ≡ stepAt (now (s .entry)) at ⌝ }
 {
     if at < s.len() {
         return step::first_frame(&s[at..]);
     }
     Step::Broken
-}
-
-// The body of the frame at a place of a message, as the part of the message that it fills; the empty part where there is none.
-pub fn body_from(s: &[u8], at: usize) -> &[u8]
-    ensures { λ r. ⌜ now r ≡ bodyFrom (now (s .entry)) at ⌝ }
-{
-    if at < s.len() {
-        return read::body(&s[at..], 0);
-    }
-    &s[..0]
 }
 
 // A reader at the front of a message.
@@ -46,18 +36,11 @@ pub fn moved<'a>(r: Reader<'a>, at: usize) -> Reader<'a>
     Reader { src: r.src, at }
 }
 
-// The frame at the reader's place.
+// The frame at the reader's place. The next one stands behind its body.
 pub fn next<'a>(r: Reader<'a>) -> Step
     ensures { λ s. ⌜ s ≡ stepAt (now (r .entry .src)) (r .entry .at) ⌝ }
 {
     frame_from(r.src, r.at)
-}
-
-// The body of the frame at the reader's place.
-pub fn body<'a>(r: Reader<'a>) -> &'a [u8]
-    ensures { λ s. ⌜ now s ≡ bodyFrom (now (r .entry .src)) (r .entry .at) ⌝ }
-{
-    body_from(r.src, r.at)
 }
 
 // The frame at a place of a message, by a reader.
@@ -65,11 +48,4 @@ pub fn frame_at(msg: &[u8], at: usize) -> Step
     ensures { λ r. ⌜ r ≡ stepAt (now (msg .entry)) at ⌝ }
 {
     next(moved(new(msg), at))
-}
-
-// The body of the frame at a place of a message, by a reader.
-pub fn body_at(msg: &[u8], at: usize) -> &[u8]
-    ensures { λ r. ⌜ now r ≡ bodyFrom (now (msg .entry)) at ⌝ }
-{
-    body(moved(new(msg), at))
 }

@@ -2,14 +2,12 @@
 use Prim.Native.Nat.{ℕ, zero, suc, _+_}
 use mathlib.Core.Bool.{Bool, true, false, cond}
 use mathlib.Core.List.{List, [], _∷_, _++_}
-use mathlib.Core.Option.{Option, none, some, Option·map}
+use mathlib.Core.Option.{Option, none, some, Option·map, Option·getD}
 use lib.Dec.{leb}
-use lib.ListN.{length, take, drop}
+use lib.ListN.{length, getD, take, drop}
 use Rattle.base.specs.Bytes.{Bytes}
 use Rattle.base.specs.Octets.{octets}
 use Rattle.frames.specs.Steps.{stepOf}
-use Rattle.frames.specs.declared.read.Framing.{Framing}
-use Rattle.frames.specs.declared.read.Framing.the-variants.{Frames, Unsound}
 use Rattle.frames.specs.declared.step.Step.{Step}
 use Rattle.frames.specs.declared.step.Step.the-variants.{Frame, Broken}
 
@@ -43,18 +41,12 @@ readUpTo (suc n) s = through (readUpTo n) s (stepOf s)
 unfoldable pub framesIn : Bytes → Option (List Bytes)
 framesIn s = readUpTo (length s) s
 
--- the framing of a message
-abbrev pub counted : Option (List Bytes) → Framing
-counted none = Unsound
-counted (some bodies) = Frames (length bodies)
+-- the frames of a message; none where its framing is broken
+abbrev pub partsOf : Bytes → List Bytes
+partsOf msg = Option·getD (framesIn msg) []
 
-unfoldable pub framingOf : Bytes → Framing
-framingOf s = counted (framesIn s)
-
--- the body of frame k, counted from 0, of which only the frames before it are looked at
-unfoldable pub bodyAt : ℕ → Bytes → Bytes
-bodyAt zero s = bodyOf s (stepOf s)
-bodyAt (suc k) s = bodyAt k (restOf s (stepOf s))
+unfoldable pub frameAt : ℕ → Bytes → Bytes
+frameAt k msg = getD (partsOf msg) k []
 
 -- ---- writing
 abbrev pub flagOf : Bool → Bool → ℕ

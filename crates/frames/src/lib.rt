@@ -1,3 +1,2 @@
-// Messages as frames in lent bytes, and how they are read: a flag octet, a size, a body (ZMTP 3.0). Writing them is in the crate frame_writer.
-pub mod read;
+// Messages as frames in lent bytes: a flag octet, a size, a body (ZMTP 3.0). The crates frame_reader and framing read them, frame_writer writes them.
 pub mod step;

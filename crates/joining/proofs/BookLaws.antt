@@ -17,7 +17,8 @@ use Rattle.base.specs.Bytes.{Bytes, isNil, every}
 use Rattle.base.specs.Checks.Check.{when}
 use Rattle.base.specs.Checks.{Check, firstOf}
 use Rattle.cells.specs.Cells.{All}
-use Rattle.messages.specs.Fields.{frameAt, fieldsOf}
+use Rattle.frames.specs.Messages.{frameAt}
+use Rattle.messages.specs.Fields.{fieldsOf}
 use Rattle.names.specs.Keys.{isKey}
 use Rattle.names.specs.Numbers.{maxSequence, isSequence}
 use Rattle.names.specs.declared.order.Order.the-variants.{Less, Equal, Greater}

@@ -23,7 +23,8 @@ use Rattle.client_plan.specs.Effects.{Effect, snapshotEffect, updateEffect, sub
 use Rattle.client_plan.specs.Next.{effectNext, acceptedNext}
 use Rattle.client_plan.specs.Refusals.{effectChecks, timeChecks, callChecks}
 use Rattle.client_state.specs.Views.{Replica}
-use Rattle.messages.specs.Fields.{frameAt, fieldsOf}
+use Rattle.frames.specs.Messages.{frameAt}
+use Rattle.messages.specs.Fields.{fieldsOf}
 use Rattle.names.specs.Keys.{under}
 use Rattle.names.specs.Words.{wordKthxbai, wordHugz}
 use Rattle.ports.specs.Ports.{framed, kthxbaiChecks, kvsyncChecks, snapshotChecks, snapshotPort, subscriberPort}

@@ -17,7 +17,8 @@ use Rattle.client_plan.specs.Effects.{updateEffect}
 use Rattle.client_plan.specs.Next.{updated, effectNext}
 use Rattle.client_plan.specs.Refusals.{overfills, callChecks}
 use Rattle.client_state.specs.Views.{Replica}
-use Rattle.messages.specs.Fields.{Fields, frameAt, fieldsOf}
+use Rattle.frames.specs.Messages.{frameAt}
+use Rattle.messages.specs.Fields.{Fields, fieldsOf}
 use Rattle.names.specs.Keys.{under}
 use Rattle.names.specs.Numbers.{maxSequence}
 use Rattle.ports.specs.Ports.{subscriberPort}

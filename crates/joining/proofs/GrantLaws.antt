@@ -13,7 +13,8 @@ use Rattle.base.proofs.CheckLaws.{pass-all}
 use Rattle.base.specs.Bytes.{Bytes}
 use Rattle.base.specs.Checks.{firstOf}
 use Rattle.cells.specs.Cells.{All}
-use Rattle.messages.specs.Fields.{frameAt, icanhaz as question, withIdentity}
+use Rattle.frames.specs.Messages.{frameAt}
+use Rattle.messages.specs.Fields.{icanhaz as question, withIdentity}
 use Rattle.names.specs.Keys.{isSubtree, under}
 use Rattle.names.specs.Lengths.{isIdentity}
 use Rattle.ports.specs.Ports.{icanhazPort}

@@ -11,7 +11,8 @@ use Rattle.client_plan.specs.Calls.{Call as ClientCall}
 use Rattle.client_plan.specs.Effects.Effect.{finish}
 use Rattle.client_plan.specs.Next.{effectNext}
 use Rattle.client_state.specs.Views.{Replica}
-use Rattle.messages.specs.Fields.{Fields, bytesOf, frameAt, kthxbai}
+use Rattle.frames.specs.Messages.{frameAt}
+use Rattle.messages.specs.Fields.{Fields, bytesOf, kthxbai}
 use Rattle.names.specs.Keys.{under}
 use Rattle.names.specs.Numbers.{maxSequence}
 use Rattle.names.specs.Words.{wordKthxbai}

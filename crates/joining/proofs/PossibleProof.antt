@@ -12,7 +12,8 @@ use Rattle.client_plan.specs.Calls.Call.{snapshot, subscriber}
 use Rattle.client_plan.specs.Calls.{Call as ClientCall}
 use Rattle.client_plan.specs.Next.{acceptedNext}
 use Rattle.client_state.specs.Views.{Replica}
-use Rattle.messages.specs.Fields.{Fields, frameAt}
+use Rattle.frames.specs.Messages.{frameAt}
+use Rattle.messages.specs.Fields.{Fields}
 use Rattle.names.specs.Keys.{isSubtree}
 use Rattle.names.specs.Lengths.{isIdentity}
 use Rattle.names.specs.Numbers.{maxSequence, maxTick}

@@ -10,8 +10,8 @@ use borrow.Author.Tests.{not-false}
 use Rattle.base.proofs.CheckLaws.{passed, both-passed}
 use Rattle.base.specs.Bytes.{Bytes, same}
 use Rattle.base.specs.Checks.{firstOf}
-use Rattle.frames.specs.Messages.{encode, frame}
-use Rattle.messages.specs.Fields.{Fields, bytesOf, fieldsOf, frameAt, partsOf, kvpub, hugz}
+use Rattle.frames.specs.Messages.{encode, frame, frameAt, partsOf}
+use Rattle.messages.specs.Fields.{Fields, bytesOf, fieldsOf, kvpub, hugz}
 use Rattle.names.specs.Keys.{isKey}
 use Rattle.names.specs.Numbers.{maxSequence}
 use Rattle.names.specs.Words.{wordHugz}

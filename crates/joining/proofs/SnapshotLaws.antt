@@ -19,7 +19,8 @@ use Rattle.client_plan.specs.Calls.{Call as ClientCall}
 use Rattle.client_plan.specs.Next.{effectNext}
 use Rattle.client_state.specs.Views.{Replica}
 use Rattle.messages.proofs.RoundTrip.{fields-back, identity-off}
-use Rattle.messages.specs.Fields.{Fields, bytesOf, frameAt, fieldsOf, kvsync, kthxbai, withIdentity, withoutIdentity}
+use Rattle.frames.specs.Messages.{frameAt}
+use Rattle.messages.specs.Fields.{Fields, bytesOf, fieldsOf, kvsync, kthxbai, withIdentity, withoutIdentity}
 use Rattle.names.specs.Keys.{isSubtree, under}
 use Rattle.names.specs.Lengths.{isIdentity}
 use Rattle.names.specs.Numbers.{maxSequence}

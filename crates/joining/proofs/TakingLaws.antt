@@ -17,7 +17,8 @@ use Rattle.client_plan.specs.Effects.Effect.{sync}
 use Rattle.client_plan.specs.Next.{effectNext, acceptedNext}
 use Rattle.client_plan.specs.Refusals.{callChecks as clientChecks}
 use Rattle.client_state.specs.Views.{Replica}
-use Rattle.messages.specs.Fields.{Fields, frameAt}
+use Rattle.frames.specs.Messages.{frameAt}
+use Rattle.messages.specs.Fields.{Fields}
 use Rattle.names.specs.Keys.{isSubtree, under}
 use Rattle.names.specs.Numbers.{maxSequence, maxTick}
 use Rattle.names.specs.Order.{orderOf}

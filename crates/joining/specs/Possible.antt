@@ -6,7 +6,8 @@ use mathlib.Core.Path.{_≡_}
 use Rattle.base.specs.Bytes.{Bytes}
 use Rattle.client_plan.specs.Calls.Call.{snapshot}
 use Rattle.client_plan.specs.Calls.{Call as ClientCall}
-use Rattle.messages.specs.Fields.{frameAt, icanhaz as question, withIdentity}
+use Rattle.frames.specs.Messages.{frameAt}
+use Rattle.messages.specs.Fields.{icanhaz as question, withIdentity}
 use Rattle.names.specs.Keys.{isSubtree}
 use Rattle.names.specs.Lengths.{isIdentity}
 use Rattle.names.specs.Numbers.{maxTick}

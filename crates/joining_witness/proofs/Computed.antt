@@ -7,7 +7,7 @@ use Rattle.client.specs.Start.{startRefusal as clientStartRefusal, startOf as w
 use Rattle.client_plan.specs.Next.{effectNext, acceptedNext as clientBecomes}
 use Rattle.client_plan.specs.Output.{acceptedBytes as clientWrites}
 use Rattle.client_plan.specs.Refusals.{callChecks as clientChecks}
-use Rattle.frames.specs.Messages.{readUpTo, framesIn, frame, encode}
+use Rattle.frames.specs.Messages.{readUpTo, framesIn, frame, encode, frameAt}
 use Rattle.frames.specs.Runs.{endUpTo, endIn, joined, cutUpTo, messagesIn}
 use Rattle.frames.specs.Steps.{shortOf, longOf, flagged, stepOf}
 use Rattle.joining.specs.Book.{bookStart, bookRefusal, bookKvset, bookTick, entered, bookNext, bookAfter, valueOf, mapOf, mapAt}
@@ -16,7 +16,7 @@ use Rattle.joining.specs.Joining.{highest}
 use Rattle.joining.specs.Readings.{isKvpub, keyOf, numberOf, kvpubNumber, kvpubNumbers}
 use Rattle.joining_witness.proofs.GapTests.{among, allAmong, between, noneBetween, gapless}
 use Rattle.joining_witness.specs.Kinds.{serverKinds, clientKinds}
-use Rattle.messages.specs.Fields.{bytesOf, frameAt}
+use Rattle.messages.specs.Fields.{bytesOf}
 use Rattle.names.specs.Keys.{isKey, isSubtree}
 use Rattle.names.specs.Order.{orderOf}
 use Rattle.properties.specs.Decimals.{decimalFrom, decimalOf}

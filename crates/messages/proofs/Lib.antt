@@ -1,3 +1,4 @@
+pub mod IdentityLaws
 pub mod LengthLaws
 pub mod RoundTrip
 pub mod WriteLaws

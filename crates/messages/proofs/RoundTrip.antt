@@ -8,8 +8,8 @@ use mathlib.Core.Path.{_≡_, refl}
 use lib.ListN.{length}
 use Rattle.base.specs.Bytes.{Bytes}
 use Rattle.frames.proofs.FrameLaws.{frame-begins, rest-read, Sized, round-trip}
-use Rattle.frames.specs.Messages.{framesIn, encode}
-use Rattle.messages.specs.Fields.{Fields, bytesOf, frameAt, fieldsOf, icanhaz, withIdentity, withoutIdentity}
+use Rattle.frames.specs.Messages.{framesIn, encode, frameAt}
+use Rattle.messages.specs.Fields.{Fields, bytesOf, fieldsOf, icanhaz, withIdentity, withoutIdentity}
 use Rattle.names.specs.Words.{wordIcanhaz}
 
 -- each frame is short enough for a size

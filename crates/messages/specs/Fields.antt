@@ -2,11 +2,9 @@
 use Prim.Native.Nat.{ℕ, _+_}
 use mathlib.Core.Bool.{true}
 use mathlib.Core.List.{List, [], _∷_, _++_}
-use mathlib.Core.Option.{Option·getD}
-use lib.ListN.{getD}
 use Rattle.base.specs.Bytes.{Bytes}
 use Rattle.base.specs.Octets.{octets}
-use Rattle.frames.specs.Messages.{restOf, framesIn, frameLength, frame, encode}
+use Rattle.frames.specs.Messages.{restOf, frameAt, frameLength, frame, encode}
 use Rattle.frames.specs.Steps.{stepOf}
 use Rattle.names.specs.Words.{wordIcanhaz, wordKthxbai, wordHugz}
 
@@ -25,13 +23,7 @@ fields head sequence uuid properties value =
 unfoldable pub bytesOf : Fields → Bytes
 bytesOf f = encode (f .head) (f .sequence ∷ f .uuid ∷ f .properties ∷ f .value ∷ [])
 
--- the frames of a message; none where its framing is broken
-abbrev pub partsOf : Bytes → List Bytes
-partsOf msg = Option·getD (framesIn msg) []
-
-unfoldable pub frameAt : ℕ → Bytes → Bytes
-frameAt k msg = getD (partsOf msg) k []
-
+-- the fields of a message, as frames of it
 abbrev pub fieldsOf : Bytes → Fields
 fieldsOf msg = fields (frameAt 0 msg) (frameAt 1 msg) (frameAt 2 msg) (frameAt 3 msg) (frameAt 4 msg)
 

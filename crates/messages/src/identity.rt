@@ -1,6 +1,6 @@
 // The identity frame, which stands in front of a message on its way through the router.
 use frame_writer::frame;
-use frames::read;
+use frames::step::Step;
 ghost use mathlib.Core.Path.{_≡_};
 ghost use Rattle.base.specs.Output.{Written};
 ghost use Rattle.messages.specs.Fields.{identityFrame, withoutIdentity};
@@ -16,5 +16,13 @@ pub fn write_identity(out: &mut [u8], at: usize, identity: &[u8]) -> usize
 pub fn without_identity(msg: &[u8]) -> &[u8]
     ensures { λ r. ⌜ now r ≡ withoutIdentity (now (msg .entry)) ⌝ }
 {
-    read::behind_first(msg)
+    let Step::Frame {
+        start,
+        len,
+        more: _,
+    } = frame_reader::frame_at(msg, 0)
+    else {
+        return &msg[..0];
+    };
+    &msg[start + len..]
 }

@@ -7,6 +7,13 @@ pub const FRAMES: usize = 5;
 
 pub const REQUEST_FRAMES: usize = 3;
 
+// The frames of a snapshot request.
+pub const IDENTITY: usize = 0;
+
+pub const WORD: usize = 1;
+
+pub const SUBTREE: usize = 2;
+
 // The frames of a message with five of them.
 pub const HEAD: usize = 0;
 

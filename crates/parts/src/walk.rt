@@ -1,6 +1,5 @@
 // Messages that lie one after another, split into their frames.
 use base::bytes;
-use frames::read;
 use frames::step::Step;
 ghost use mathlib.Core.Path.{_≡_};
 ghost use Rattle.parts.specs.Walk.{takenAt, beginsMessage};
@@ -20,7 +19,7 @@ pub enum Taken {
 fn begins_message(s: &[u8], at: usize) -> bool
     ensures { λ r. ⌜ r ≡ beginsMessage (now (s .entry)) at ⌝ }
 {
-    0 < read::first_message(bytes::behind(s, at)).len()
+    0 < framing::first_message(bytes::behind(s, at)).len()
 }
 
 // The frame at a place of some bytes. Inside a message the frames before it promised one. Between two messages a frame is

@@ -2,93 +2,122 @@
 use Prim.Native.Nat.{ℕ, _<_}
 use native.Mathlib.Omega.{arith}
 use mathlib.Core.Bool.{Bool, true, false, cond, not}
-use mathlib.Core.List.{List, [], _++_}
+use mathlib.Core.List.{List, [], _∷_, _++_}
 use mathlib.Core.Option.{Option, none, some, Option·getD}
-use mathlib.Core.Path.{_≡_, refl}
+use mathlib.Core.Path.{_≡_, refl, sym, ap, _∙_}
 use lib.Dec.{eqb}
-use lib.ListN.{length, getD}
-use borrow.Author.Tests.{eqb-true, not-false}
-use Rattle.answers.proofs.VerdictLaws.{accepted, past-accepted}
+use lib.ListN.{length}
+use borrow.Author.Tests.{lt-ltb, eq-eqb, ne-eqb}
 use Rattle.answers.specs.Refusals.{verdict}
+use Rattle.answers.specs.declared.refusal.Refusal.the-variants.{Framing, FrameCount}
 use Rattle.answers.specs.declared.refusal.Refusal.{Refusal}
-use Rattle.answers.specs.declared.refusal.Verdict.the-variants.{Accept}
+use Rattle.answers.specs.declared.refusal.Verdict.the-variants.{Accept, Refuse as Refused}
 use Rattle.base.proofs.ByteLaws.{is-empty, not-empty}
-use Rattle.base.proofs.CheckLaws.{passed, both-passed}
 use Rattle.base.specs.Bytes.{Bytes, isNil}
+use Rattle.base.specs.Checks.Check.{when}
 use Rattle.base.specs.Checks.{Check, firstOf}
 use Rattle.base.specs.Octets.{number}
-use Rattle.frames.proofs.MessageLaws.{body-of}
-use Rattle.frames.specs.Messages.{framesIn, counted, framingOf, bodyAt}
-use Rattle.frames.specs.declared.read.Framing.the-variants.{Frames, Unsound}
-use Rattle.messages.specs.Fields.{Fields, partsOf, frameAt, fieldsOf}
+use Rattle.frames.proofs.MessageLaws.{none-some}
+use Rattle.frames.proofs.RunLaws.{end-whole}
+use Rattle.frames.specs.Messages.{framesIn, frameAt}
+use Rattle.frames.specs.Runs.{endIn}
+use Rattle.framing.specs.Splits.{framingBy, framingOf, bodyIn, IsSplit}
+use Rattle.framing.specs.declared.Framing.the-variants.{Frames, Broken, Surplus}
+use Rattle.framing.specs.declared.Framing.{Framing as FoundFraming}
+use Rattle.framing.specs.declared.Split.{Split}
+use Rattle.messages.specs.Fields.{Fields, fieldsOf}
 use Rattle.names.specs.Numbers.{sequence, isSequence, numberedOf}
 use Rattle.names.specs.declared.numbers.Numbered.the-variants.{By, Unnumbered}
 use Rattle.names.specs.declared.numbers.Sequence.{Sequence}
-use Rattle.ports.specs.Bodies.{bodiesOf}
-use Rattle.ports.specs.Ports.{isNone, framed}
+use Rattle.ports.specs.Bodies.{framedBy, fieldsAt, kvsetBy, icanhazBy, snapshotBy, subscriberBy, lifetimeIn, updateOf}
+use Rattle.ports.specs.Ports.{isNone, framed, kvsetChecks, kvsetPort, icanhazChecks, icanhazPort, snapshotChecks, snapshotPort, publishedChecks, subscriberPort}
+use Rattle.ports.specs.declared.update.Update.the-variants.{Refuse, Lasting}
 use Rattle.properties.specs.Properties.{propertiesOf, isGood}
 use Rattle.properties.specs.declared.read.Lifetime.{Lifetime}
 use Rattle.properties.specs.declared.read.Properties.the-variants.{Good, Malformed}
+use Rattle.properties.specs.declared.read.Properties.{Properties}
 
 -- ---- the framing and the count of frames
-none-broken : (x : Option (List Bytes)) → Unsound ≡ counted x → isNone x ≡ true
-none-broken none e = refl
-none-broken (some bodies) e = absurd (let z : _≡_ {A = ℕ} 0 1 = cc in omega arith)
+module _ (n : ℕ) (f : FoundFraming) where
+  pub stop-broken : f ≡ Broken → Refused Framing ≡ verdict (firstOf (framedBy n f))
+  unfolding firstOf
+  stop-broken e = rw e refl
 
-some-sound : (m : ℕ) (x : Option (List Bytes)) → Frames m ≡ counted x → (isNone x ≡ false) × (length (Option·getD x []) ≡ m)
-some-sound m none e = absurd (let z : _≡_ {A = ℕ} 0 1 = cc in omega arith)
-some-sound m (some bodies) e = (refl, cc)
+  pub stop-surplus : f ≡ Surplus → Refused Framing ≡ verdict (firstOf (framedBy n f))
+  unfolding firstOf
+  stop-surplus e = rw e refl
 
-module _ (msg : Bytes) where
-  pub unsound : Unsound ≡ framingOf msg → isNone (framesIn msg) ≡ true
+  module _ (m : ℕ) (e : f ≡ Frames m) where
+    pub stop-count : (m ≡ n → ⊥) → Refused FrameCount ≡ verdict (firstOf (framedBy n f))
+    unfolding firstOf
+    stop-count h = rw (e, ne-eqb m n h)
+
+    pub pass-count : m ≡ n → Accept ≡ verdict (firstOf (framedBy n f))
+    unfolding firstOf
+    pass-count h = rw (e, eq-eqb m n h)
+
+module _ (msg : Bytes) (r : Split) (h : IsSplit msg r) where
+  pub framing-is : (n : ℕ) → framedBy n (r .framing) ≡ framed n msg
   unfolding framingOf
-  unsound e = none-broken (framesIn msg) e
-
-  module _ (m : ℕ) (e : Frames m ≡ framingOf msg) where
-    pub sound : isNone (framesIn msg) ≡ false
-    unfolding framingOf
-    sound = some-sound m (framesIn msg) e .0
-
-    pub count-is : length (partsOf msg) ≡ m
-    unfolding framingOf
-    count-is = some-sound m (framesIn msg) e .1
-
--- a message with as many frames as the port takes: the code finds the bodies of its frames
-module _ (n : ℕ) (msg : Bytes) (e : Accept ≡ verdict (firstOf (framed n msg))) where
-  all-passed : firstOf (framed n msg) ≡ none
-  all-passed = accepted (firstOf (framed n msg)) e
-
-  pub frame-is : (k : ℕ) → k < n → bodyAt k msg ≡ frameAt k msg
-  unfolding frameAt
-  frame-is k l = go (framesIn msg) refl (passed 0 (framed n msg) all-passed) (passed 1 (framed n msg) all-passed)
+  framing-is n = ap (framedBy n) (h .framing) ∙ go (endIn msg) (framesIn msg) refl (end-whole msg)
     where
-      go : (x : Option (List Bytes)) → framesIn msg ≡ x → isNone x ≡ false → not (eqb (length (Option·getD x [])) n) ≡ false → bodyAt k msg ≡ getD (Option·getD x []) k []
-      go none f s h = absurd (let z : _≡_ {A = ℕ} 0 1 = cc in omega arith)
-      go (some bodies) f s h =
-          let m : length bodies ≡ n = eqb-true _ _ (not-false _ h) in
-          body-of k msg bodies (omega arith) f
+      go : (x : Option ℕ) (y : Option (List Bytes)) → endIn msg ≡ x → ((bodies : List Bytes) → y ≡ some bodies → endIn msg ≡ some (length msg))
+          → framedBy n (framingBy x y) ≡ when (isNone y) Framing ∷ when (not (eqb (length (Option·getD y [])) n)) FrameCount ∷ []
+      go none none e w = refl
+      go none (some bodies) e w = none-some (length msg) (sym e ∙ w bodies refl)
+      go (some m) none e w = refl
+      go (some m) (some bodies) e w = refl
 
--- of five frames: they are the fields
-module _ (msg : Bytes) (e : Accept ≡ verdict (firstOf (framed 5 msg))) where
-  pub fields-are : bodiesOf msg ≡ fieldsOf msg
-  fields-are =
-      let at : (k : ℕ) → k < 5 → bodyAt k msg ≡ frameAt k msg = frame-is 5 msg e in
-      rw (at 0 (omega arith), at 1 (omega arith), at 2 (omega arith), at 3 (omega arith), at 4 (omega arith))
+  pub verdict-is : (n : ℕ) → verdict (firstOf (framedBy n (r .framing))) ≡ verdict (firstOf (framed n msg))
+  verdict-is n = ap (λ (rows : List (Check Refusal)). verdict (firstOf rows)) (framing-is n)
 
-  -- what the checks of the bodies come to is what those of the port come to
-  pub by-fields : (checks : Fields → List (Check Refusal)) → verdict (firstOf (checks (bodiesOf msg))) ≡ verdict (firstOf (framed 5 msg ++ checks (fieldsOf msg)))
-  by-fields checks = rw (fields-are, past-accepted (framed 5 msg) (checks (fieldsOf msg)) e)
+  -- the body of one of the first five frames is what the checks speak of
+  pub body-is : (k : ℕ) → k < 5 → bodyIn msg (r .places) k ≡ frameAt k msg
+  body-is k l = rw (lt-ltb k 5 l) (h .bodies k l)
 
--- a message that a port lets pass, of whose table the framing is the first part
-module _ (n : ℕ) (msg : Bytes) (behind : List (Check Refusal)) (e : firstOf (framed n msg ++ behind) ≡ none) where
-  framing-good : Accept ≡ verdict (firstOf (framed n msg))
-  framing-good = rw (both-passed (framed n msg) behind e .0)
+  pub fields-are : fieldsAt msg (r .places) ≡ fieldsOf msg
+  fields-are = rw (body-is 0 (omega arith), body-is 1 (omega arith), body-is 2 (omega arith), body-is 3 (omega arith), body-is 4 (omega arith))
 
-  pub port-frame : (k : ℕ) → k < n → bodyAt k msg ≡ frameAt k msg
-  port-frame k h = frame-is n msg framing-good k h
+  by-fields : (checks : Fields → List (Check Refusal)) → framedBy 5 (r .framing) ++ checks (fieldsAt msg (r .places)) ≡ framed 5 msg ++ checks (fieldsOf msg)
+  by-fields checks =
+      ap (λ (rows : List (Check Refusal)). rows ++ checks (fieldsAt msg (r .places))) (framing-is 5)
+      ∙ ap (λ (f : Fields). framed 5 msg ++ checks f) fields-are
 
-pub port-fields : (msg : Bytes) (behind : List (Check Refusal)) → firstOf (framed 5 msg ++ behind) ≡ none → bodiesOf msg ≡ fieldsOf msg
-port-fields msg behind e = fields-are msg (framing-good 5 msg behind e)
+  -- so what the ports refuse by a message's split is what they refuse of the message
+  pub kvset-is : kvsetBy msg r ≡ kvsetPort msg
+  kvset-is = by-fields kvsetChecks
+
+  pub icanhaz-is : icanhazBy msg r ≡ icanhazPort msg
+  icanhaz-is =
+      ap (λ (rows : List (Check Refusal)). rows ++ icanhazChecks (bodyIn msg (r .places) 0) (bodyIn msg (r .places) 1) (bodyIn msg (r .places) 2)) (framing-is 3)
+      ∙ rw (body-is 0 (omega arith), body-is 1 (omega arith), body-is 2 (omega arith))
+
+  pub snapshot-is : (subtree : Bytes) → snapshotBy subtree msg r ≡ snapshotPort subtree msg
+  snapshot-is subtree = by-fields (snapshotChecks subtree)
+
+  pub subscriber-is : subscriberBy msg r ≡ subscriberPort msg
+  subscriber-is = by-fields publishedChecks
+
+-- ---- an update that is read
+module _ (p : Bytes) (x : Option Refusal) where
+  pub update-refused : (r : Refusal) → Refuse r ≡ updateOf p x → x ≡ some r
+  unfolding updateOf
+  update-refused r e = go x e
+    where
+      go : (x : Option Refusal) → Refuse r ≡ updateOf p x → x ≡ some r
+      go none e = absurd (let z : _≡_ {A = ℕ} 0 1 = cc in omega arith)
+      go (some q) e = let i : q ≡ r = cc in ap some i
+
+  pub update-lasting : (l : Lifetime) → Lasting l ≡ updateOf p x → (x ≡ none) × (l ≡ lifetimeIn (propertiesOf p))
+  unfolding updateOf
+  update-lasting l e = go x e
+    where
+      go : (x : Option Refusal) → Lasting l ≡ updateOf p x → (x ≡ none) × (l ≡ lifetimeIn (propertiesOf p))
+      go none e = (refl, cc)
+      go (some q) e = absurd (let z : _≡_ {A = ℕ} 0 1 = cc in omega arith)
+
+pub lifetime-read : (p : Properties) (l : Lifetime) → Good l ≡ p → lifetimeIn p ≡ l
+lifetime-read p l e = rw (← e) refl
 
 -- ---- tests of a part of the message, x, that the table makes of its body, y
 module _ {x y : Bytes} (e : x ≡ y) where

@@ -11,8 +11,8 @@ use Rattle.base.specs.Bytes.{Bytes, isNil, same}
 use Rattle.base.specs.Checks.Check.{when}
 use Rattle.base.specs.Checks.{Check, firstOf}
 use Rattle.base.specs.Octets.{number}
-use Rattle.frames.specs.Messages.{framesIn}
-use Rattle.messages.specs.Fields.{Fields, partsOf, frameAt, fieldsOf}
+use Rattle.frames.specs.Messages.{framesIn, partsOf, frameAt}
+use Rattle.messages.specs.Fields.{Fields, fieldsOf}
 use Rattle.names.specs.Keys.{isKey, isSubtree, under}
 use Rattle.names.specs.Lengths.{isUuid, isIdentity, isValue}
 use Rattle.names.specs.Numbers.{maxSequence, maxTick, isSequence}

@@ -1,5 +1,6 @@
 -- Properties are lines: each a name, an equals sign and a value, and ended by a newline. They take 128 bytes at most. One of them may be named
 -- ttl, and says how many seconds a row lives, in up to five digits.
+use Prim.Native.Nat.{ℕ}
 use mathlib.Core.Bool.{Bool, true, false, cond, not, _&&_}
 use mathlib.Core.List.{List, [], _∷_}
 use mathlib.Core.Option.{Option, none, some, Option·map}
@@ -11,6 +12,7 @@ use Rattle.properties.specs.Decimals.{decimalOf}
 use Rattle.properties.specs.declared.decimal.Decimal.the-variants.{Is, Wrong}
 use Rattle.properties.specs.declared.decimal.Decimal.{Decimal}
 use Rattle.properties.specs.declared.read.Lifetime.the-variants.{Unlimited, Seconds}
+use Rattle.properties.specs.declared.read.Lifetime.{Lifetime}
 use Rattle.properties.specs.declared.read.Properties.the-variants.{Good, Malformed}
 use Rattle.properties.specs.declared.read.Properties.{Properties}
 
@@ -77,6 +79,11 @@ judged (some ps) = lifetimeOf (ttls ps)
 -- what a properties frame says
 unfoldable pub propertiesOf : Bytes → Properties
 propertiesOf s = cond (leb (length s) 128) (judged (propertiesIn s)) Malformed
+
+-- the seconds of a lifetime; 0 where it is unlimited
+abbrev pub secondsOf : Lifetime → ℕ
+secondsOf Unlimited = 0
+secondsOf (Seconds n) = n
 
 abbrev pub isGood : Properties → Bool
 isGood (Good l) = true

@@ -21,9 +21,9 @@ use Rattle.base.specs.Logs.{Log}
 use Rattle.base.specs.Octets.{number}
 use Rattle.base.specs.Output.{largest}
 use Rattle.frames.proofs.FrameLaws.{frame-length}
-use Rattle.frames.specs.Messages.{framesIn, frameLength, frame}
+use Rattle.frames.specs.Messages.{framesIn, frameLength, frame, partsOf, frameAt}
 use Rattle.messages.proofs.LengthLaws.{short-frame, value-frame}
-use Rattle.messages.specs.Fields.{Fields, fields, partsOf, frameAt, fieldsOf}
+use Rattle.messages.specs.Fields.{Fields, fields, fieldsOf}
 use Rattle.names.proofs.UnderLaws.{key-short, subtree-short}
 use Rattle.names.specs.Keys.{isKey, isSubtree, under}
 use Rattle.names.specs.Lengths.{isUuid, isIdentity, isValue}

@@ -26,7 +26,8 @@ use Rattle.client_state.specs.declared.Client.{Client}
 use Rattle.frames.proofs.RunLaws.{Whole, run-cut, joined-last}
 use Rattle.frames.specs.Runs.{messagesIn}
 use Rattle.messages.proofs.RoundTrip.{identity-off, identity-on, request-on}
-use Rattle.messages.specs.Fields.{frameAt, fieldsOf, bytesOf, kvset, kvpub, kvsync, kthxbai, icanhaz, withIdentity, withoutIdentity}
+use Rattle.frames.specs.Messages.{frameAt}
+use Rattle.messages.specs.Fields.{fieldsOf, bytesOf, kvset, kvpub, kvsync, kthxbai, icanhaz, withIdentity, withoutIdentity}
 use Rattle.names.proofs.UnderLaws.{subtree-short}
 use Rattle.names.specs.Keys.{isKey, isSubtree, under}
 use Rattle.names.specs.Lengths.{isIdentity}

@@ -15,9 +15,9 @@ use Rattle.client_plan.specs.Output.{bytesFor as clientBytes}
 use Rattle.client_plan.specs.Refusals.{refusalOf as clientRefusal}
 use Rattle.client_state.specs.Views.{subtreeOf}
 use Rattle.client_state.specs.declared.Client.{Client}
-use Rattle.frames.specs.Messages.{framesIn}
+use Rattle.frames.specs.Messages.{framesIn, frameAt}
 use Rattle.frames.specs.Runs.{messagesIn}
-use Rattle.messages.specs.Fields.{Fields, frameAt, fieldsOf, kvset, kvpub, kvsync, kthxbai, hugz, withIdentity, withoutIdentity}
+use Rattle.messages.specs.Fields.{Fields, fieldsOf, kvset, kvpub, kvsync, kthxbai, hugz, withIdentity, withoutIdentity}
 use Rattle.names.specs.Keys.{under}
 use Rattle.names.specs.Lengths.{isIdentity}
 use Rattle.names.specs.Words.{wordIcanhaz}

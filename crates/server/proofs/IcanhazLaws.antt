@@ -18,10 +18,12 @@ use Rattle.base.proofs.OutputLaws.{place, output}
 use Rattle.base.specs.Bytes.{Bytes}
 use Rattle.base.specs.Checks.{Check, firstOf}
 use Rattle.base.specs.Output.{Written}
-use Rattle.frames.specs.Messages.{bodyAt}
-use Rattle.messages.specs.Fields.{frameAt}
-use Rattle.ports.proofs.PortLaws.{port-frame}
-use Rattle.ports.specs.Ports.{icanhazChecks, icanhazPort}
+use Rattle.frames.specs.Messages.{frameAt}
+use Rattle.framing.specs.Splits.{bodyIn, IsSplit}
+use Rattle.framing.specs.declared.Split.{Split}
+use Rattle.ports.proofs.PortLaws.{icanhaz-is, body-is}
+use Rattle.ports.specs.Bodies.{icanhazBy}
+use Rattle.ports.specs.Ports.{icanhazPort}
 use Rattle.rows.proofs.RowLaws.{map-map}
 use Rattle.rows.specs.Rows.{Rows, mapRows}
 use Rattle.server_plan.proofs.AnswerLaws.{refused-call, accepted-call, refusal-is}
@@ -48,6 +50,22 @@ abbrev pub requestChecks : Server → Bytes → ℕ → List (Check Refusal)
 requestChecks s msg room =
     illForms (s .table .keys) (s .table .«key_lengths») (s .table .«value_lengths») (s .numbers) (s .expiries) (s .table .count) (s .header)
     ++ (icanhazPort msg ++ roomChecks s msg room)
+
+-- made by the split of a message they are those of the message
+pub request-read : (s : Server) (msg : Bytes) (r : Split) → IsSplit msg r → (room : ℕ)
+    → illForms (s .table .keys) (s .table .«key_lengths») (s .table .«value_lengths») (s .numbers) (s .expiries) (s .table .count) (s .header)
+    ++ (icanhazBy msg r ++ snapshotChecks (rowsOf (keysOf s) (take (s .table .count) (s .table .«value_lengths»))) (bodyIn msg (r .places) 0) (bodyIn msg (r .places) 2) room)
+    ≡ requestChecks s msg room
+request-read s msg r h room =
+    ap (λ (port : List (Check Refusal)). state ++ (port ++ rest (bodyIn msg (r .places) 0) (bodyIn msg (r .places) 2))) (icanhaz-is msg r h)
+    ∙ ap (λ (i : Bytes). state ++ (icanhazPort msg ++ rest i (bodyIn msg (r .places) 2))) (body-is msg r h 0 (omega arith))
+    ∙ ap (λ (t : Bytes). state ++ (icanhazPort msg ++ rest (frameAt 0 msg) t)) (body-is msg r h 2 (omega arith))
+  where
+    state : List (Check Refusal)
+    state = illForms (s .table .keys) (s .table .«key_lengths») (s .table .«value_lengths») (s .numbers) (s .expiries) (s .table .count) (s .header)
+
+    rest : Bytes → Bytes → List (Check Refusal)
+    rest i t = snapshotChecks (rowsOf (keysOf s) (take (s .table .count) (s .table .«value_lengths»))) i t room
 
 module _ (s : Server) (z : SizedServer s) where
   lengths-are : WellFormed s → mapRows valueLength (ledgerOf (view s) .rows) ≡ rowsOf (keysOf s) (take (s .table .count) (s .table .«value_lengths»))
@@ -87,19 +105,16 @@ module _ (s : Server) (z : SizedServer s) where
     inner : (firstOf (icanhazPort msg) ≡ none) × (firstOf (roomChecks s msg (length out)) ≡ none)
     inner = both-passed (icanhazPort msg) (roomChecks s msg (length out)) (split .1)
 
-    part : (k : ℕ) → k < 3 → bodyAt k msg ≡ frameAt k msg
-    part = port-frame 3 msg (icanhazChecks (frameAt 0 msg) (frameAt 1 msg) (frameAt 2 msg)) (inner .0)
-
     fits : length (snapshotBytes (s .header .number .0) (frameAt 0 msg) (frameAt 2 msg) (rowsOf (keysOf s) (heldOf s))) ≤ length out
     fits =
         rw
         (columns-length (s .table .count) (s .table .values) (s .table .«value_lengths») (s .numbers) (s .expiries) (z .table .values) (z .table .value-lengths) (z .numbers) (z .expiries) (good .rows .count) values-in (s .header .number .0) (frameAt 0 msg) (frameAt 2 msg) (keysOf s))
         (ltb-false _ _ (passed 0 (roomChecks s msg (length out)) (inner .1)))
 
-    module _ {identity subtree : Bytes} (i : identity ≡ bodyAt 0 msg) (t : subtree ≡ bodyAt 2 msg) where
+    module _ {identity subtree : Bytes} (i : identity ≡ frameAt 0 msg) (t : subtree ≡ frameAt 2 msg) where
       same-bytes : snapshotBytes (s .header .number .0) identity subtree (rowsOf (keysOf s) (heldOf s))
           ≡ snapshotBytes (s .header .number .0) (frameAt 0 msg) (frameAt 2 msg) (rowsOf (keysOf s) (heldOf s))
-      same-bytes = rw (i, t, part 0 (omega arith), part 2 (omega arith))
+      same-bytes = rw (i, t)
 
       -- what the writer of a snapshot asks for
       pub snapshot-fits : (s .table .count ≤ 64) × ((lengthsFit 96 (s .table .count) (s .table .«key_lengths») ≡ true)

@@ -17,13 +17,16 @@ use Rattle.base.proofs.OutputLaws.{output, place}
 use Rattle.base.specs.Bytes.{Bytes, isNil}
 use Rattle.base.specs.Checks.{Check, firstOf}
 use Rattle.base.specs.Output.{put, Written}
-use Rattle.frames.specs.Messages.{bodyAt}
-use Rattle.messages.specs.Fields.{frameAt, fieldsOf}
+use Rattle.frames.specs.Messages.{frameAt}
+use Rattle.framing.specs.Splits.{IsSplit}
+use Rattle.framing.specs.declared.Split.{Split}
+use Rattle.messages.specs.Fields.{Fields, fieldsOf}
 use Rattle.names.proofs.UnderLaws.{key-short as key-most}
 use Rattle.names.specs.Keys.{isKey}
 use Rattle.names.specs.Numbers.{sequence, maxSequence, maxTick}
-use Rattle.ports.proofs.PortLaws.{port-frame}
-use Rattle.ports.specs.Ports.{framed, kvsetChecks, kvsetPort, tickChecks}
+use Rattle.ports.proofs.PortLaws.{kvset-is, fields-are}
+use Rattle.ports.specs.Bodies.{fieldsAt, kvsetBy, lifetimeIn}
+use Rattle.ports.specs.Ports.{kvsetPort, tickChecks}
 use Rattle.properties.specs.Properties.{propertiesOf}
 use Rattle.rows.proofs.RowLaws.{map-hasKey, map-length}
 use Rattle.rows.specs.Rows.{hasKey, mapRows, setRow, removeRow}
@@ -32,10 +35,12 @@ use Rattle.server_plan.specs.Answers.{acceptedKind}
 use Rattle.server_plan.specs.Calls.{kvset}
 use Rattle.server_plan.specs.Next.{expiryAt, kvsetNext, acceptedNext}
 use Rattle.server_plan.specs.Output.{acceptedBytes}
+use Rattle.server_plan.specs.Plans.{planOf}
 use Rattle.server_plan.specs.Promises.{Answered}
 use Rattle.server_plan.specs.Refusals.{update, updateChecks, callChecks, refusalOf}
 use Rattle.server.specs.Start.{headerAt}
 use Rattle.server_plan.specs.declared.Reply.{Reply}
+use Rattle.server_plan.specs.declared.kvset.Plan.{Plan}
 use Rattle.server_state.proofs.FormLaws.{GoodServer, good-server, server-good}
 use Rattle.server_state.proofs.StateLaws.{Columns, keys-long, as-long, rows-long, rows-after, good-after}
 use Rattle.server_state.specs.IllFormed.{illFormsOf, isExpiry, WellFormed}
@@ -60,6 +65,19 @@ module _ (s : Server) (z : SizedServer s) (g : GoodServer s) where
 abbrev pub kvsetTable : Server → Bytes → ℕ → ℕ → List (Check Refusal)
 kvsetTable s msg t room =
     kvsetPort msg ++ (tickChecks (s .header .«last_tick» .0) t ++ updateChecks (isFound (placeOf 0 (frameAt 0 msg) (keysOf s))) (s .table .count) (s .header .number .0) (fieldsOf msg) room)
+
+-- the plan that is made by the split of a message is that of the message
+module _ (s : Server) (t room : ℕ) where
+  abbrev pub planFor : List (Check Refusal) → Fields → Plan
+  planFor port f =
+      planOf
+      (firstOf (illFormsOf s ++ (port ++ (tickChecks (s .header .«last_tick» .0) t ++ updateChecks (isFound (placeOf 0 (f .head) (keysOf s))) (s .table .count) (s .header .number .0) f room))))
+      (changeTo (isNil (f .value)) (placeOf 0 (f .head) (keysOf s))) (s .header .number .0) (lifetimeIn (propertiesOf (f .properties)))
+
+  pub plan-read : (msg : Bytes) (r : Split) → IsSplit msg r → planFor (kvsetBy msg r) (fieldsAt msg (r .places)) ≡ planFor (kvsetPort msg) (fieldsOf msg)
+  plan-read msg r h =
+      ap (λ (port : List (Check Refusal)). planFor port (fieldsAt msg (r .places))) (kvset-is msg r h)
+      ∙ ap (planFor (kvsetPort msg)) (fields-are msg r h)
 
 kvset-table : (s : Server) → SizedServer s → (msg : Bytes) (t room : ℕ) → WellFormed s → firstOf (kvsetTable s msg t room) ≡ firstOf (callChecks (ledgerOf (view s)) (kvset msg t room))
 unfolding callChecks ledgerOf view
@@ -101,15 +119,6 @@ module _ (s : Server) (z : SizedServer s) (msg : Bytes) (t room : ℕ) (e : firs
 
   pub value-short : length (frameAt 4 msg) ≤ 256
   value-short = leb-true (length (frameAt 4 msg)) 256 (not-false _ (test 6))
-
-  pub frames-are : (k : ℕ) → k < 5 → bodyAt k msg ≡ frameAt k msg
-  frames-are k h = port-frame 5 msg (kvsetChecks (fieldsOf msg) ++ behind) whole k h
-    where
-      behind : List (Check Refusal)
-      behind = tickChecks (s .header .«last_tick» .0) t ++ updateChecks (isFound (placeOf 0 (frameAt 0 msg) (keysOf s))) (s .table .count) (s .header .number .0) (fieldsOf msg) room
-
-      whole : firstOf (framed 5 msg ++ (kvsetChecks (fieldsOf msg) ++ behind)) ≡ none
-      whole = sym (pass-all (illFormsOf s) (kvsetTable s msg t room) well) ∙ e
 
   pub in-time : t ≤ maxTick
   in-time = leb-true t maxTick (not-false _ (test 7))

@@ -3,7 +3,8 @@ use answers::answer;
 use answers::answer::Answer;
 use answers::answer::Kind;
 use answers::refusal::Verdict;
-use frames::read;
+use messages::IDENTITY;
+use messages::SUBTREE;
 use server_plan::Reply;
 use server_state::Header;
 use server_state::Server;
@@ -12,11 +13,6 @@ ghost use lib.ListN.{length};
 ghost use Rattle.server_plan.specs.Calls.{icanhaz as requested};
 ghost use Rattle.server_plan.specs.Lent.{lent, unchanged};
 ghost use Rattle.server_plan.specs.Promises.{Answered};
-
-// The frames of the request.
-const IDENTITY: usize = 0;
-
-const SUBTREE: usize = 2;
 
 // ICANHAZ at a state whose columns are lent: a message of three frames, an identity, the word and a subtree, whose snapshot is written to the output.
 pub fn icanhaz_lent<'a>(
@@ -40,6 +36,7 @@ pub fn icanhaz_lent<'a>(
     let number_column: &[u64] = numbers;
     let expiry_column: &[u64] = expiries;
     let number = header.number;
+    let split = framing::split_message(msg);
     match server_plan::icanhaz::check_request(
         keys,
         key_lengths,
@@ -49,6 +46,7 @@ pub fn icanhaz_lent<'a>(
         count,
         header,
         msg,
+        split,
         out.len(),
     ) {
         Verdict::Refuse(r) => answer::without_output(Kind::Refused(r, number)),
@@ -63,8 +61,8 @@ pub fn icanhaz_lent<'a>(
                 expiries,
                 count,
                 number,
-                read::body(msg, IDENTITY),
-                read::body(msg, SUBTREE),
+                framing::body(msg, split.places, IDENTITY),
+                framing::body(msg, split.places, SUBTREE),
             );
             answer::with_output(Kind::Wrote(number), written)
         }

@@ -1,7 +1,6 @@
 // KVSET: an update that a client asks for is made and published.
 use answers::answer;
 use answers::answer::Kind;
-use frames::read;
 use messages::HEAD;
 use messages::PROPERTIES;
 use messages::UUID;
@@ -9,11 +8,9 @@ use messages::VALUE;
 use messages::write;
 use names::numbers::Tick;
 use properties::read::Lifetime;
-use properties::read::Properties;
 use server_plan::Outcome;
 use server_plan::Reply;
 use server_plan::kvset::Plan;
-use server_plan::number;
 use server_state::Header;
 use server_state::NEVER;
 use server_state::Server;
@@ -25,7 +22,8 @@ ghost use mathlib.Core.Path.{_≡_};
 ghost use Prim.Native.Nat.{_≤_};
 ghost use lib.ListN.{length};
 ghost use Rattle.names.specs.Numbers.{maxTick};
-ghost use Rattle.properties.specs.Properties.{propertiesOf};
+ghost use Rattle.properties.specs.Properties.{secondsOf};
+ghost use Rattle.properties.specs.declared.read.Properties.the-variants.{Good};
 ghost use Rattle.server_state.specs.IllFormed.{isExpiry};
 ghost use Rattle.server_state.specs.Views.{expiryIn};
 ghost use Rattle.server_plan.specs.Calls.{kvset as asked};
@@ -33,17 +31,14 @@ ghost use Rattle.server_plan.specs.Lent.{lent, ended};
 ghost use Rattle.server_plan.specs.Next.{expiryAt};
 ghost use Rattle.server_plan.specs.Promises.{Answered};
 
-// When a row that is set at a tick expires, by the properties of its update.
-fn expiry_at(tick: Tick, properties: &[u8]) -> u64
-    requires { ⌜ tick .0 ≤ maxTick ⌝ }
-    ensures { λ r. ⌜ (expiryIn r ≡ expiryAt (tick .0) (propertiesOf (now (properties .entry)))) × (isExpiry r ≡ true) ⌝ }
+// When a row that is set at a tick expires, by its lifetime.
+fn expiry_at(tick: Tick, lifetime: Lifetime) -> u64
+    requires { ⌜ (tick .0 ≤ maxTick) × (secondsOf lifetime ≤ 86400) ⌝ }
+    ensures { λ r. ⌜ (expiryIn r ≡ expiryAt (tick .0) (Good lifetime)) × (isExpiry r ≡ true) ⌝ }
 {
-    match properties::read::read_properties(properties) {
-        Properties::Malformed => NEVER,
-        Properties::Good(lifetime) => match lifetime {
-            Lifetime::Unlimited => NEVER,
-            Lifetime::Seconds(n) => tick.0 + 1000 * n,
-        },
+    match lifetime {
+        Lifetime::Unlimited => NEVER,
+        Lifetime::Seconds(n) => tick.0 + 1000 * n,
     }
 }
 
@@ -70,6 +65,7 @@ pub fn kvset_lent(
     let number_column: &[u64] = numbers;
     let expiry_column: &[u64] = expiries;
     let last = header.number;
+    let split = framing::split_message(msg);
     match server_plan::kvset::plan_kvset(
         keys,
         key_lengths,
@@ -79,6 +75,7 @@ pub fn kvset_lent(
         count,
         header,
         msg,
+        split,
         tick,
         out.len(),
     ) {
@@ -90,13 +87,12 @@ pub fn kvset_lent(
                 answer,
             };
         }
-        Plan::Go(change) => {
-            let key = read::body(msg, HEAD);
-            let uuid = read::body(msg, UUID);
-            let properties = read::body(msg, PROPERTIES);
-            let value = read::body(msg, VALUE);
+        Plan::Go(change, number, lifetime) => {
+            let key = framing::body(msg, split.places, HEAD);
+            let uuid = framing::body(msg, split.places, UUID);
+            let properties = framing::body(msg, split.places, PROPERTIES);
+            let value = framing::body(msg, split.places, VALUE);
             let fresh = row::fresh_row(key, value);
-            let number = number::next_number(last);
             let left = change::change_row(
                 keys,
                 values,
@@ -107,7 +103,7 @@ pub fn kvset_lent(
                 fresh,
             );
             change::change_numbers(numbers, change, count, number.0);
-            change::change_numbers(expiries, change, count, expiry_at(tick, properties));
+            change::change_numbers(expiries, change, count, expiry_at(tick, lifetime));
             let written = write::write_kvpub(out, 0, number, key, uuid, properties, value);
             Outcome {
                 count: left,

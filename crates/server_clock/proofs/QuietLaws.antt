@@ -17,6 +17,7 @@ use Rattle.base.proofs.CheckLaws.{pass-all}
 use Rattle.base.specs.Bytes.{Bytes, every}
 use Rattle.base.specs.Checks.{firstOf}
 use Rattle.base.specs.Output.{put}
+use Rattle.names.proofs.UnderLaws.{key-short}
 use Rattle.names.specs.Keys.{isKey}
 use Rattle.names.specs.Numbers.{maxSequence, maxTick}
 use Rattle.rows.proofs.RowLaws.{map-remove, map-length, map-keys, sorted-map, sorted-remove, rising-sorted, every-remove}
@@ -110,7 +111,7 @@ module _ (t room : ℕ) (late : t ≤ maxTick) (enough : 114 ≤ room) where
         d = deed-is (some b) e
 
         short : ltb room (length (expiry (suc (v .number)) (b .0))) ≡ false
-        short = le-ltb room (length (expiry (suc (v .number)) (b .0))) (omega (arith, expiry-bound (suc (v .number)) (b .0) k))
+        short = le-ltb room (length (expiry (suc (v .number)) (b .0))) (omega (arith, expiry-bound (suc (v .number)) (b .0) (key-short (b .0) k)))
 
         go : (x : Bool) → eqb (v .number) maxSequence ≡ x → QuietBy (suc n) t room v
         go true f = stops 0 (omega arith) (outcome (expire (b .0)) d ∙ rw f)

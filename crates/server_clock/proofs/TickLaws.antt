@@ -56,13 +56,14 @@ use Rattle.table.specs.Columns.{rowsOf}
 use Rattle.table.specs.declared.change.Change.the-variants.{Remove}
 
 -- ---- from the step back to the refusal and the row that is due
-record Expires (x : Option Refusal) (d : Due) (i : ℕ) : Type 0 where
+record Expires (x : Option Refusal) (d : Due) (i number : ℕ) (m : Sequence) : Type 0 where
   passes : x ≡ none
   when-due : ℕ
   is-due : d ≡ At i when-due
+  numbered : m ≡ sequence (suc number)
 
-module _ (t published : ℕ) where
-  refuses : (r : Refusal) (x : Option Refusal) (d : Due) → Stop r ≡ stepOf x t published d → x ≡ some r
+module _ (number t published : ℕ) where
+  refuses : (r : Refusal) (x : Option Refusal) (d : Due) → Stop r ≡ stepOf x number t published d → x ≡ some r
   refuses r (some q) d e = let z : q ≡ r = cc in ap some z
   refuses r none (At j f) e = absurd (let z : _≡_ {A = ℕ} 0 1 = cc in omega arith)
   refuses r none Nothing e = absurd (go (leb 1000 (t - published)) e)
@@ -71,17 +72,17 @@ module _ (t published : ℕ) where
       go true e = let z : _≡_ {A = ℕ} 0 1 = cc in omega arith
       go false e = let z : _≡_ {A = ℕ} 0 1 = cc in omega arith
 
-  expires : (i : ℕ) (x : Option Refusal) (d : Due) → Expire i ≡ stepOf x t published d → Expires x d i
-  expires i (some q) d e = absurd (let z : _≡_ {A = ℕ} 0 1 = cc in omega arith)
-  expires i none (At j f) e = let z : j ≡ i = cc in record { passes = refl; when-due = f; is-due = ap (λ (k : ℕ). At k f) z }
-  expires i none Nothing e = absurd (go (leb 1000 (t - published)) e)
+  expires : (i : ℕ) (m : Sequence) (x : Option Refusal) (d : Due) → Expire i m ≡ stepOf x number t published d → Expires x d i number m
+  expires i m (some q) d e = absurd (let z : _≡_ {A = ℕ} 0 1 = cc in omega arith)
+  expires i m none (At j f) e = let z : j ≡ i = cc in record { passes = refl; when-due = f; is-due = ap (λ (k : ℕ). At k f) z; numbered = cc }
+  expires i m none Nothing e = absurd (go (leb 1000 (t - published)) e)
     where
-      go : (b : Bool) → Expire i ≡ cond b Beat Quiet → ⊥
+      go : (b : Bool) → Expire i m ≡ cond b Beat Quiet → ⊥
       go true e = let z : _≡_ {A = ℕ} 0 1 = cc in omega arith
       go false e = let z : _≡_ {A = ℕ} 0 1 = cc in omega arith
 
   -- with no refusal and no row that is due, the time since the last publication decides
-  rests : (x : Option Refusal) (d : Due) (b : Bool) → cond b Beat Quiet ≡ stepOf x t published d → (x ≡ none) × ((d ≡ Nothing) × (leb 1000 (t - published) ≡ b))
+  rests : (x : Option Refusal) (d : Due) (b : Bool) → cond b Beat Quiet ≡ stepOf x number t published d → (x ≡ none) × ((d ≡ Nothing) × (leb 1000 (t - published) ≡ b))
   rests (some q) d true e = absurd (let z : _≡_ {A = ℕ} 0 1 = cc in omega arith)
   rests (some q) d false e = absurd (let z : _≡_ {A = ℕ} 0 1 = cc in omega arith)
   rests none (At j f) true e = absurd (let z : _≡_ {A = ℕ} 0 1 = cc in omega arith)
@@ -111,7 +112,7 @@ checksIn s t room = tickChecks (s .header .«last_tick» .0) t ++ deedChecks (s 
 -- what a Tick on a server comes to
 abbrev pub stepIn : Server → ℕ → ℕ → Step
 stepIn s t room =
-    stepOf (firstOf (illForms (s .table .keys) (s .table .«key_lengths») (s .table .«value_lengths») (s .numbers) (s .expiries) (s .table .count) (s .header) ++ checksIn s t room)) t (s .header .«last_published» .0) (dueIn s t)
+    stepOf (firstOf (illForms (s .table .keys) (s .table .«key_lengths») (s .table .«value_lengths») (s .numbers) (s .expiries) (s .table .count) (s .header) ++ checksIn s t room)) (s .header .number .0) t (s .header .«last_published» .0) (dueIn s t)
 
 module _ (s : Server) where
   viewed-number : view s .number ≡ s .header .number .0
@@ -191,7 +192,6 @@ accepted-tick s t room out after r d e f a l o w =
 pub record RowKnown (s : Server) (i : ℕ) : Type 0 where
   pub fits : (i < s .table .count) × (s .table .count ≤ 64)
   pub key : (i < 64) × (getD (s .table .«key_lengths») i 0 ≤ 96)
-  pub number : s .header .number .0 < maxSequence
 
 module _ (s : Server) (T : Tick) (out : Bytes) (z : SizedServer s) {step : Step} (planned : step ≡ stepIn s (T .0) (length out)) where
   abbrev call : Call
@@ -203,12 +203,12 @@ module _ (s : Server) (T : Tick) (out : Bytes) (z : SizedServer s) {step : Step}
   unfolding illFormsOf
   tick-refused r reason e kept told =
       refused-call s call out r reason
-      (sym (refusal-in s (T .0) (length out) z) ∙ refuses (T .0) (s .header .«last_published» .0) reason (firstOf (illFormsOf s ++ checksIn s (T .0) (length out))) (dueIn s (T .0)) (sym e ∙ planned)) kept told
+      (sym (refusal-in s (T .0) (length out) z) ∙ refuses (s .header .number .0) (T .0) (s .header .«last_published» .0) reason (firstOf (illFormsOf s ++ checksIn s (T .0) (length out))) (dueIn s (T .0)) (sym e ∙ planned)) kept told
 
   rest-known : (b : Bool) → step ≡ cond b Beat Quiet → (Passing s (T .0) (length out)) × (deedIn s (T .0) ≡ cond b beat quiet)
   unfolding illFormsOf
   rest-known b e =
-      let k = rests (T .0) (s .header .«last_published» .0) (firstOf (illFormsOf s ++ checksIn s (T .0) (length out))) (dueIn s (T .0)) b (sym e ∙ planned) in
+      let k = rests (s .header .number .0) (T .0) (s .header .«last_published» .0) (firstOf (illFormsOf s ++ checksIn s (T .0) (length out))) (dueIn s (T .0)) b (sym e ∙ planned) in
       (passing s (T .0) (length out) z (k .0), rw (k .1 .0, k .1 .1))
 
   -- a Tick with nothing to do
@@ -259,10 +259,10 @@ module _ (s : Server) (T : Tick) (out : Bytes) (z : SizedServer s) {step : Step}
         (server-good _ (good-later (s .table .keys) (s .table .«key_lengths») (s .table .«value_lengths») (s .numbers) (s .expiries) (s .table .count) (s .header) (p .good) T T (omega arith) (p .in-range)))
 
   -- a row that expires
-  module _ (i : ℕ) (e : step ≡ Expire i) where
-    row-known : Expires (firstOf (illFormsOf s ++ checksIn s (T .0) (length out))) (dueIn s (T .0)) i
+  module _ (i : ℕ) (m : Sequence) (e : step ≡ Expire i m) where
+    row-known : Expires (firstOf (illFormsOf s ++ checksIn s (T .0) (length out))) (dueIn s (T .0)) i (s .header .number .0) m
     unfolding illFormsOf
-    row-known = expires (T .0) (s .header .«last_published» .0) i (firstOf (illFormsOf s ++ checksIn s (T .0) (length out))) (dueIn s (T .0)) (sym e ∙ planned)
+    row-known = expires (s .header .number .0) (T .0) (s .header .«last_published» .0) i m (firstOf (illFormsOf s ++ checksIn s (T .0) (length out))) (dueIn s (T .0)) (sym e ∙ planned)
 
     row-passes : Passing s (T .0) (length out)
     row-passes = passing s (T .0) (length out) z (row-known .passes)
@@ -281,13 +281,16 @@ module _ (s : Server) (T : Tick) (out : Bytes) (z : SizedServer s) {step : Step}
     row-key : (i < 64) × (getD (s .table .«key_lengths») i 0 ≤ 96)
     row-key = (omega (arith, row-fits .0, row-fits .1), fit-at 96 (s .table .count) (s .table .«key_lengths») (row-passes .good .rows .key-lengths) i (row-fits .0))
 
-    row-number : s .header .number .0 < maxSequence
-    row-number =
+    row-left : s .header .number .0 < maxSequence
+    row-left =
         let d = eqb-false (s .header .number .0) maxSequence (passed 0 (deedChecks (s .header .number .0) (expire (getD (keysOf s) i [])) (length out)) row-lets) in
         omega (arith, row-passes .good .number, d)
 
     pub row-holds : RowKnown s i
-    row-holds = record { fits = row-fits; key = row-key; number = row-number }
+    row-holds = record { fits = row-fits; key = row-key }
+
+    pub row-number : m ≡ sequence (suc (s .header .number .0))
+    row-number = row-known .numbered
 
     row-room : 0 + length (expiry (suc (s .header .number .0)) (getD (keysOf s) i [])) ≤ length out
     row-room =
@@ -330,7 +333,7 @@ module _ (s : Server) (T : Tick) (out : Bytes) (z : SizedServer s) {step : Step}
 
       stays : GoodServer (r .state)
       stays =
-          good-after row-fits z c (row-passes .good) rows-stay never never (omega (arith, number-after)) (omega (arith, number-after, row-number)) (rw header-is (omega arith)) (rw header-is (row-passes .in-range))
+          good-after row-fits z c (row-passes .good) rows-stay never never (omega (arith, number-after)) (omega (arith, number-after, row-left)) (rw header-is (omega arith)) (rw header-is (row-passes .in-range))
 
       pub tick-expired : Answered s (tick (T .0) (length out)) out r after
       unfolding tickBytes

@@ -5,7 +5,6 @@ use messages::write;
 use names::numbers::Tick;
 use server_plan::Outcome;
 use server_plan::Reply;
-use server_plan::number;
 use server_plan::tick::Step;
 use server_state::Header;
 use server_state::Server;
@@ -60,8 +59,7 @@ pub fn tick_lent(
                 answer,
             };
         }
-        Step::Expire(i) => {
-            let number = number::next_number(last);
+        Step::Expire(i, number) => {
             let key = text::key_at(keys, key_lengths, i);
             let written = write::write_kvpub(out, 0, number, key, b"", b"", b"");
             let gone = Change::Remove(i);

@@ -1,6 +1,5 @@
 // The calls of a server. Each prints a line with its answer.
 use base::bytes;
-use frames::read;
 use messages::HEAD;
 use messages::VALUE;
 use messages::identity;
@@ -25,10 +24,11 @@ pub(crate) fn begin(number: u64, at: u64) -> Server {
 
 // What a KVSET asks for. A key that is set to nothing is removed.
 fn asked(msg: &[u8]) {
+    let split = framing::split_message(msg);
     print::text(b"KVSET ");
-    print::text(read::body(msg, HEAD));
+    print::text(framing::body(msg, split.places, HEAD));
     print::text(b"=");
-    print::text(read::body(msg, VALUE));
+    print::text(framing::body(msg, split.places, VALUE));
 }
 
 // A KVSET by the bytes of its message.
@@ -76,7 +76,8 @@ pub(crate) fn tell(s: Server, at: u64) -> Server {
 fn published(msg: &[u8]) {
     if 0 < msg.len() {
         print::text(b"  publishes ");
-        print::text(read::body(msg, HEAD));
+        let split = framing::split_message(msg);
+        print::text(framing::body(msg, split.places, HEAD));
         print::text(b"\n");
     }
 }

@@ -3,16 +3,21 @@ use Prim.Native.Nat.{ℕ, _≤_}
 use native.Mathlib.Omega.{arith}
 use mathlib.Core.Bool.{true}
 use mathlib.Core.List.{[]}
+use mathlib.Core.Option.{none}
 use mathlib.Core.Path.{_≡_, ap}
-use lib.ListN.{length}
-use borrow.Author.Tests.{le-leb}
+use lib.ListN.{length, take}
+use borrow.Author.Tests.{le-leb, not-false}
+use Rattle.base.proofs.CheckLaws.{passed, both-passed}
 use Rattle.base.proofs.OctetLaws.{length-octets}
 use Rattle.base.specs.Bytes.{Bytes}
-use Rattle.messages.proofs.LengthLaws.{hugz-bytes}
+use Rattle.base.specs.Checks.{firstOf}
+use Rattle.messages.proofs.LengthLaws.{kvpub-bound, hugz-bytes}
 use Rattle.messages.proofs.WriteLaws.{bytes-length}
 use Rattle.messages.specs.Fields.{Fields, bytesOf, kvpub, hugz, messageLength}
 use Rattle.names.proofs.UnderLaws.{key-short}
 use Rattle.names.specs.Keys.{isKey}
+use Rattle.ports.proofs.SizeLaws.{payload-short}
+use Rattle.ports.specs.Ports.{payloadChecks, kvsetChecks}
 use Rattle.server_plan.specs.Refusals.{update, expiry}
 
 -- the KVPUB of an update that was asked for
@@ -20,15 +25,22 @@ pub update-length : (n : ℕ) (f : Fields) → length (update n f) ≡ messageLe
 unfolding update
 update-length n f = bytes-length (kvpub n (f .head) (f .uuid) (f .properties) (f .value)) (length-octets 8 n)
 
+-- it is at most 521 bytes long, if its frames are good
+pub update-bound : (n : ℕ) (f : Fields) → firstOf (kvsetChecks f) ≡ none → length (update n f) ≤ 521
+unfolding update
+update-bound n f e =
+    let k = key-short (f .head) (not-false (isKey (f .head)) (passed 0 (kvsetChecks f) e)) in
+    let p = payload-short (f .uuid) (f .properties) (f .value) (both-passed (take 2 (kvsetChecks f)) (payloadChecks (f .uuid) (f .properties) (f .value)) e .1) in
+    kvpub-bound n (f .head) k (f .uuid) (f .properties) (f .value) (p .0) (p .1 .0) (p .1 .1)
+
 -- the KVPUB of a row that expired: at most 114 bytes
 module _ (n : ℕ) (key : Bytes) where
   pub expiry-length : length (expiry n key) ≡ messageLength (length key) 0 0 0
   unfolding expiry
   expiry-length = bytes-length (kvpub n key [] [] []) (length-octets 8 n)
 
-  pub expiry-bound : isKey key ≡ true → length (expiry n key) ≤ 114
-  expiry-bound e =
-      let k = key-short key e in
+  pub expiry-bound : length key ≤ 96 → length (expiry n key) ≤ 114
+  expiry-bound k =
       let f = le-leb (length key) 255 (omega arith) in
       omega (arith, rw f at expiry-length)
 

@@ -1,11 +1,11 @@
 -- Laws of the checks of an ICANHAZ, one behind the other, and of the room for the snapshot. Assumes nothing.
-use Prim.Native.Nat.{ℕ, _+_, _≤_, _<_, min}
+use Prim.Native.Nat.{ℕ, _≤_, _<_, min}
 use native.Mathlib.Omega.{arith}
 use mathlib.Core.List.{List, _++_}
 use mathlib.Core.Path.{_≡_, sym, ap, _∙_}
 use lib.ListN.{length}
 use borrow.Author.Tests.{lt-ltb, le-ltb}
-use Rattle.answers.proofs.VerdictLaws.{accepted, past-accepted, past-refused}
+use Rattle.answers.proofs.VerdictLaws.{past-accepted, past-refused}
 use Rattle.answers.specs.Refusals.{verdict}
 use Rattle.answers.specs.declared.refusal.Refusal.the-variants.{ShortOutput}
 use Rattle.answers.specs.declared.refusal.Refusal.{Refusal}
@@ -14,10 +14,6 @@ use Rattle.answers.specs.declared.refusal.Verdict.{Verdict}
 use Rattle.base.specs.Bytes.{Bytes}
 use Rattle.base.specs.Checks.{Check, firstOf}
 use Rattle.base.specs.Output.{largest}
-use Rattle.frames.specs.Messages.{bodyAt}
-use Rattle.messages.specs.Fields.{frameAt}
-use Rattle.ports.proofs.PortLaws.{port-frame}
-use Rattle.ports.specs.Ports.{icanhazChecks, icanhazPort}
 use Rattle.rows.specs.Rows.{Rows}
 use Rattle.server_plan.specs.Refusals.{snapshotChecks}
 use Rattle.server_state.specs.Snapshots.{snapshotLength}
@@ -32,26 +28,14 @@ module _ (rows : Rows ℕ) (room : ℕ) {identity subtree first third : Bytes} (
   unfolding firstOf
   too-long h = rw (lt-ltb room (snapshotLength (length first) third rows) (omega (arith, needed)))
 
-  pub has-room : room < largest → need ≤ room → Accept ≡ verdict (firstOf (snapshotChecks rows first third room))
+  pub has-room : snapshotLength (length first) third rows ≤ 40954 → need ≤ room → Accept ≡ verdict (firstOf (snapshotChecks rows first third room))
   unfolding firstOf
-  has-room k h = rw (le-ltb room (snapshotLength (length first) third rows) (omega (arith, needed)))
-
--- ---- a request that its port takes: the code finds the bodies of its frames
-parts : (msg : Bytes) → Accept ≡ verdict (firstOf (icanhazPort msg)) → (k : ℕ) → k < 3 → bodyAt k msg ≡ frameAt k msg
-parts msg e = port-frame 3 msg (icanhazChecks (frameAt 0 msg) (frameAt 1 msg) (frameAt 2 msg)) (accepted (firstOf (icanhazPort msg)) e)
+  has-room k h = rw (le-ltb room (snapshotLength (length first) third rows) (omega (arith, needed, k)))
 
 -- ---- the checks, one table behind the other: of the state, of the port, and of the room
-module _ (state : List (Check Refusal)) (msg : Bytes) (rows : Rows ℕ) (room : ℕ) (well : Accept ≡ verdict (firstOf state)) where
-  abbrev last : List (Check Refusal)
-  last = snapshotChecks rows (frameAt 0 msg) (frameAt 2 msg) room
+module _ (state port last : List (Check Refusal)) (well : Accept ≡ verdict (firstOf state)) where
+  pub port-refused : (r : Refusal) → Refuse r ≡ verdict (firstOf port) → Refuse r ≡ verdict (firstOf (state ++ (port ++ last)))
+  port-refused r e = past-refused verdict port last r e ∙ sym (ap verdict (past-accepted state (port ++ last) well))
 
-  pub port-refused : (r : Refusal) → Refuse r ≡ verdict (firstOf (icanhazPort msg))
-      → Refuse r ≡ verdict (firstOf (state ++ (icanhazPort msg ++ snapshotChecks rows (frameAt 0 msg) (frameAt 2 msg) room)))
-  port-refused r e = past-refused verdict (icanhazPort msg) last r e ∙ sym (ap verdict (past-accepted state (icanhazPort msg ++ last) well))
-
-  pub by-room : Accept ≡ verdict (firstOf (icanhazPort msg)) → {r : Verdict} → r ≡ verdict (firstOf (snapshotChecks rows (bodyAt 0 msg) (bodyAt 2 msg) room))
-      → r ≡ verdict (firstOf (state ++ (icanhazPort msg ++ snapshotChecks rows (frameAt 0 msg) (frameAt 2 msg) room)))
-  by-room e f =
-      f
-      ∙ rw (parts msg e 0 (omega arith), parts msg e 2 (omega arith))
-      (sym (ap verdict (past-accepted state (icanhazPort msg ++ last) well ∙ past-accepted (icanhazPort msg) last e)))
+  pub by-room : Accept ≡ verdict (firstOf port) → {r : Verdict} → r ≡ verdict (firstOf last) → r ≡ verdict (firstOf (state ++ (port ++ last)))
+  by-room e f = f ∙ sym (ap verdict (past-accepted state (port ++ last) well ∙ past-accepted port last e))

@@ -3,7 +3,8 @@ use Prim.Native.Nat.{ℕ, suc}
 use mathlib.Core.List.{[]}
 use Rattle.answers.specs.Refusals.{ifAccepted}
 use Rattle.base.specs.Bytes.{Bytes}
-use Rattle.messages.specs.Fields.{bytesOf, frameAt, fieldsOf, hugz}
+use Rattle.frames.specs.Messages.{frameAt}
+use Rattle.messages.specs.Fields.{bytesOf, fieldsOf, hugz}
 use Rattle.server_plan.specs.Calls.{Call, kvset, tick, icanhaz}
 use Rattle.server_plan.specs.Deeds.{Deed, expire, beat, quiet, deed}
 use Rattle.server_plan.specs.Refusals.{update, expiry, refusalOf}

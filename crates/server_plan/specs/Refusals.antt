@@ -11,7 +11,8 @@ use Rattle.answers.specs.declared.refusal.Refusal.{Refusal}
 use Rattle.base.specs.Bytes.{Bytes, isNil}
 use Rattle.base.specs.Checks.Check.{when}
 use Rattle.base.specs.Checks.{Check, firstOf}
-use Rattle.messages.specs.Fields.{Fields, bytesOf, frameAt, fieldsOf, kvpub, hugz}
+use Rattle.frames.specs.Messages.{frameAt}
+use Rattle.messages.specs.Fields.{Fields, bytesOf, fieldsOf, kvpub, hugz}
 use Rattle.names.specs.Numbers.{maxSequence}
 use Rattle.ports.specs.Ports.{kvsetPort, icanhazPort, tickChecks}
 use Rattle.rows.specs.Rows.{Rows, hasKey, mapRows}

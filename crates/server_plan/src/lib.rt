@@ -6,7 +6,6 @@ use server_state::Server;
 
 pub mod icanhaz;
 pub mod kvset;
-pub mod number;
 pub mod tick;
 
 // The state after a call, and what the call answers.

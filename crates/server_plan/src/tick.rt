@@ -3,6 +3,7 @@ use answers::refusal::Refusal;
 use answers::refusal::Verdict;
 use messages::write;
 use names::numbers::MAX_SEQUENCE;
+use names::numbers::Sequence;
 use names::numbers::Tick;
 use ports::time;
 use server_state::Header;
@@ -13,10 +14,10 @@ use table::text;
 ghost use mathlib.Core.Bool.{true};
 ghost use mathlib.Core.List.{_++_};
 ghost use mathlib.Core.Path.{_≡_};
-ghost use Prim.Native.Nat.{_≤_, _<_};
+ghost use Prim.Native.Nat.{_≤_};
 ghost use lib.ListN.{take};
 ghost use Rattle.base.specs.Checks.{firstOf};
-ghost use Rattle.base.specs.Output.{largest};
+ghost use Rattle.names.specs.Numbers.{maxSequence};
 ghost use Rattle.ports.specs.Ports.{tickChecks};
 ghost use Rattle.server_state.specs.Due.{dueFrom};
 ghost use Rattle.server_state.specs.IllFormed.{illForms};
@@ -30,10 +31,10 @@ pub const HEARTBEAT_MS: u64 = 1000;
 // How many bytes HUGZ takes.
 const HUGZ_LENGTH: usize = 22;
 
-// What a Tick comes to: it is refused, the row at a place expires, or it gives a sign of life, or does nothing.
+// What a Tick comes to: it is refused, the row at a place expires under the next number, it gives a sign of life, or it does nothing.
 pub enum Step {
     Refuse(Refusal),
-    Expire(usize),
+    Expire(usize, Sequence),
     Beat,
     Quiet,
 }
@@ -48,8 +49,8 @@ fn plan_deed<'a>(
     tick: Tick,
     room: usize,
 ) -> Step
-    requires { ⌜ (count ≤ 64) × ((lengthsFit 96 count (now «key_lengths») ≡ true) × ((header .«last_published» .0 ≤ tick .0) × (room < largest))) ⌝ }
-    ensures { λ r. ⌜ r ≡ stepOf (firstOf (deedChecks (header .number .0) (deedAt (tick .0) (header .«last_published» .0) (texts 96 count (now («key_lengths» .entry)) (now (keys .entry))) (dueFrom 0 (tick .0) (take count (now (expiries .entry))))) room)) (tick .0) (header .«last_published» .0) (dueFrom 0 (tick .0) (take count (now (expiries .entry)))) ⌝ }
+    requires { ⌜ (count ≤ 64) × ((lengthsFit 96 count (now «key_lengths») ≡ true) × ((header .«last_published» .0 ≤ tick .0) × (header .number .0 ≤ maxSequence))) ⌝ }
+    ensures { λ r. ⌜ r ≡ stepOf (firstOf (deedChecks (header .number .0) (deedAt (tick .0) (header .«last_published» .0) (texts 96 count (now («key_lengths» .entry)) (now (keys .entry))) (dueFrom 0 (tick .0) (take count (now (expiries .entry))))) room)) (header .number .0) (tick .0) (header .«last_published» .0) (dueFrom 0 (tick .0) (take count (now (expiries .entry)))) ⌝ }
 {
     let number = header.number;
     let published = header.last_published;
@@ -62,7 +63,7 @@ fn plan_deed<'a>(
             if room < write::message_length(key.len(), 0, 0, 0) {
                 return Step::Refuse(Refusal::ShortOutput);
             }
-            Step::Expire(i)
+            Step::Expire(i, Sequence(number.0 + 1))
         }
         Due::Nothing => {
             if tick.0 - published.0 < HEARTBEAT_MS {
@@ -88,8 +89,7 @@ pub fn plan_tick<'a>(
     tick: Tick,
     room: usize,
 ) -> Step
-    requires { ⌜ room < largest ⌝ }
-    ensures { λ r. ⌜ r ≡ stepOf (firstOf (illForms (now (keys .entry)) (now («key_lengths» .entry)) (now («value_lengths» .entry)) (now (numbers .entry)) (now (expiries .entry)) count header ++ (tickChecks (header .«last_tick» .0) (tick .0) ++ deedChecks (header .number .0) (deedAt (tick .0) (header .«last_published» .0) (texts 96 count (now («key_lengths» .entry)) (now (keys .entry))) (dueFrom 0 (tick .0) (take count (now (expiries .entry))))) room))) (tick .0) (header .«last_published» .0) (dueFrom 0 (tick .0) (take count (now (expiries .entry)))) ⌝ }
+    ensures { λ r. ⌜ r ≡ stepOf (firstOf (illForms (now (keys .entry)) (now («key_lengths» .entry)) (now («value_lengths» .entry)) (now (numbers .entry)) (now (expiries .entry)) count header ++ (tickChecks (header .«last_tick» .0) (tick .0) ++ deedChecks (header .number .0) (deedAt (tick .0) (header .«last_published» .0) (texts 96 count (now («key_lengths» .entry)) (now (keys .entry))) (dueFrom 0 (tick .0) (take count (now (expiries .entry))))) room))) (header .number .0) (tick .0) (header .«last_published» .0) (dueFrom 0 (tick .0) (take count (now (expiries .entry)))) ⌝ }
 {
     let last = header.last_tick;
     match test::check_state(

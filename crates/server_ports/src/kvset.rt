@@ -1,7 +1,8 @@
 // The server's port for KVSET.
 use answers::refusal::Refusal;
 use answers::refusal::Verdict;
-use frames::read;
+use framing::Places;
+use framing::Split;
 use messages::FRAMES;
 use messages::HEAD;
 use messages::PROPERTIES;
@@ -11,37 +12,39 @@ use messages::VALUE;
 use names::keys;
 use names::numbers;
 use names::numbers::Numbered;
-use ports::framing::check_framing;
-use ports::update::check_payload;
+use ports::frame_count::check_framing;
+use ports::update::Update;
+use ports::update::read_payload;
 ghost use mathlib.Core.Path.{_≡_};
 ghost use Rattle.base.specs.Checks.{firstOf};
-ghost use Rattle.answers.specs.Refusals.{verdict};
-ghost use Rattle.ports.specs.Bodies.{bodiesOf};
-ghost use Rattle.ports.specs.Ports.{kvsetChecks, kvsetPort};
+ghost use Rattle.framing.specs.Splits.{bodyIn};
+ghost use Rattle.ports.specs.Bodies.{fieldsAt, kvsetBy, updateOf};
+ghost use Rattle.ports.specs.Ports.{kvsetChecks};
 
 // The frames of a KVSET.
-fn check_kvset_frames(msg: &[u8]) -> Verdict
-    ensures { λ r. ⌜ r ≡ verdict (firstOf (kvsetChecks (bodiesOf (now (msg .entry))))) ⌝ }
+fn read_kvset_frames(msg: &[u8], places: Places) -> Update
+    ensures { λ r. ⌜ r ≡ updateOf (bodyIn (now (msg .entry)) places 3) (firstOf (kvsetChecks (fieldsAt (now (msg .entry)) places))) ⌝ }
 {
-    if !keys::is_key(read::body(msg, HEAD)) {
-        return Verdict::Refuse(Refusal::BadKey);
+    if !keys::is_key(framing::body(msg, places, HEAD)) {
+        return Update::Refuse(Refusal::BadKey);
     }
-    let Numbered::By(_) = numbers::read_sequence(read::body(msg, SEQUENCE)) else {
-        return Verdict::Refuse(Refusal::BadSequence);
+    let Numbered::By(_) = numbers::read_sequence(framing::body(msg, places, SEQUENCE)) else {
+        return Update::Refuse(Refusal::BadSequence);
     };
-    check_payload(
-        read::body(msg, UUID),
-        read::body(msg, PROPERTIES),
-        read::body(msg, VALUE),
+    read_payload(
+        framing::body(msg, places, UUID),
+        framing::body(msg, places, PROPERTIES),
+        framing::body(msg, places, VALUE),
     )
 }
 
-// The server's port for KVSET.
-pub fn check_kvset(msg: &[u8]) -> Verdict
-    ensures { λ r. ⌜ r ≡ verdict (firstOf (kvsetPort (now (msg .entry)))) ⌝ }
+// The server's port for KVSET: the lifetime that an update asks for.
+pub fn read_kvset(msg: &[u8], split: Split) -> Update
+    ensures { λ r. ⌜ r ≡ updateOf (bodyIn (now (msg .entry)) (split .places) 3) (firstOf (kvsetBy (now (msg .entry)) split)) ⌝ }
 {
-    match check_framing(msg, FRAMES) {
-        Verdict::Refuse(r) => Verdict::Refuse(r),
-        Verdict::Accept => check_kvset_frames(msg),
+    let framing = split.framing;
+    match check_framing(framing, FRAMES) {
+        Verdict::Refuse(r) => Update::Refuse(r),
+        Verdict::Accept => read_kvset_frames(msg, split.places),
     }
 }

@@ -5,10 +5,10 @@ use native.Mathlib.Omega.{arith}
 use mathlib.Core.Bool.{Bool, true, false, cond}
 use mathlib.Core.List.{List, [], _∷_, _++_, append-assoc, append-nil, map, zipWith}
 use mathlib.Core.Path.{_≡_, refl, sym, ap, _∙_}
-use lib.Dec.{ltb}
+use lib.Dec.{leb, ltb}
 use lib.ListN.{length, getD, take, drop, drop-of-length-le, length-append, length-take, length-drop, length-map, take-append-drop, List·getD-map}
 use lib.Seq.{getD-take, length-take-le, take-add, take-all, ext-getD}
-use borrow.Author.Tests.{ltb-true, ltb-false}
+use borrow.Author.Tests.{leb-true, ltb-true, ltb-false}
 use Rattle.base.proofs.ByteLaws.{and-left, and-right}
 use Rattle.base.proofs.OctetLaws.{length-octets}
 use Rattle.base.proofs.OutputLaws.{clamped-sum, wrote, both, room}
@@ -18,7 +18,7 @@ use Rattle.cells.specs.Cells.{cells, cellAt, All}
 use Rattle.frames.proofs.FrameLaws.{frame-length}
 use Rattle.frames.specs.Runs.{joined}
 use Rattle.frames.specs.Messages.{frameLength}
-use Rattle.messages.proofs.LengthLaws.{kvsync-bound, kthxbai-bound}
+use Rattle.messages.proofs.LengthLaws.{short-frame, value-frame, kvsync-bound, kthxbai-bound}
 use Rattle.messages.proofs.WriteLaws.{bytes-length}
 use Rattle.messages.specs.Fields.{bytesOf, kvsync, kthxbai, identityFrame, messageLength}
 use Rattle.names.proofs.UnderLaws.{key-short, subtree-short, key-longer}
@@ -33,9 +33,9 @@ use Rattle.server_state.specs.Views.{Entry, entry, stamp, entriesOf, key
 use Rattle.server_state.specs.declared.Server.{Server}
 use Rattle.table.proofs.ChangeLaws.{getD-zip, length-zip, drop-rows}
 use Rattle.table.proofs.FindLaws.{map-rows}
-use Rattle.table.proofs.TextLaws.{text-at, length-texts, fit-at}
+use Rattle.table.proofs.TextLaws.{text-at, length-texts, fit-at, texts-short}
 use Rattle.table.proofs.TableLaws.{values-fit}
-use Rattle.table.specs.Columns.{texts, row, rowsOf, lengthsFit}
+use Rattle.table.specs.Columns.{texts, row, rowsOf, within, lengthsFit}
 
 -- ---- how long a snapshot is, with a row more
 module _ (identity : ℕ) (subtree : Bytes) where
@@ -375,17 +375,6 @@ snapshot-most number identity subtree rows i s k h = go (ltb 0 (length (keep (un
     go false e = omega (arith, bound, ltb-false 0 (length (keep (under subtree) rows)) e, subtree-short subtree s)
 
 -- ---- no value that the columns hold is longer than its cell
-short-cells : (n : ℕ) (values : List ℕ) → All Short (cells 256 n values)
-unfolding cells
-short-cells zero values = tt
-short-cells (suc n) values = (omega (arith, length-take 256 values), short-cells n (drop 256 values))
-
-short-texts : (lens : List ℕ) (parts : List Bytes) → All Short parts → All Short (zipWith take lens parts)
-unfolding zipWith
-short-texts [] parts h = tt
-short-texts (n ∷ lens) [] h = tt
-short-texts (n ∷ lens) (p ∷ parts) h = (omega (arith, length-take n p, h .0), short-texts lens parts (h .1))
-
 short-entries : (values : List Bytes) (stamps : List (ℕ × ℕ)) → All Short values → All (λ (e : Entry). Short (e .value)) (zipWith entry values stamps)
 unfolding zipWith
 short-entries [] stamps h = tt
@@ -404,7 +393,7 @@ columns-kept : (n : ℕ) (values lens numbers expiries : List ℕ) (keys : List 
 unfolding entriesOf texts
 columns-kept n values lens numbers expiries keys k =
     kept-rows keys (entriesOf n values lens numbers expiries) k
-    (short-entries (texts 256 n lens values) (zipWith stamp (take n numbers) (take n expiries)) (short-texts (take n lens) (cells 256 n values) (short-cells n values)))
+    (short-entries (texts 256 n lens values) (zipWith stamp (take n numbers) (take n expiries)) (texts-short 256 n lens values))
 
 -- a snapshot of a well-formed state is at most so long
 pub state-most : (s : Server) → SizedServer s → WellFormed s → (number : ℕ) (identity subtree : Bytes) → length identity ≤ 255 → isSubtree subtree ≡ true
@@ -414,3 +403,27 @@ state-most s z w number identity subtree i t =
     snapshot-most number identity subtree (rowsOf (keysOf s) (heldOf s)) i t
     (columns-kept (s .table .count) (s .table .values) (s .table .«value_lengths») (s .numbers) (s .expiries) (keysOf s) (g .rows .are-keys))
     (omega (arith, g .rows .count, length-keep (under subtree) (rowsOf (keysOf s) (heldOf s)), rows-long s z (g .rows .count)))
+
+-- ---- no snapshot is longer than 64 rows of the longest, and its end: by the lengths alone
+rows-bound : (identity : ℕ) (subtree : Bytes) → identity ≤ 255 → (keys : List Bytes) (lengths : List ℕ) → All (λ (k : Bytes). length k ≤ 96) keys → every (within 0 256) lengths ≡ true
+    → sum (map (syncLength identity) (keep (under subtree) (rowsOf keys lengths))) ≤ 634 * length lengths
+unfolding sum keep rowsOf zipWith every
+rows-bound identity subtree i [] lengths k v = omega arith
+rows-bound identity subtree i (key ∷ keys) [] k v = omega arith
+rows-bound identity subtree i (key ∷ keys) (n ∷ lengths) k v =
+    go (under subtree key) (rows-bound identity subtree i keys lengths (k .1) (and-right (within 0 256 n) (every (within 0 256) lengths) v))
+  where
+    value : n ≤ 256
+    value = leb-true n 256 (and-right (leb 0 n) (leb n 256) (and-left (within 0 256 n) (every (within 0 256) lengths) v))
+
+    go : (t : Bool) → sum (map (syncLength identity) (keep (under subtree) (rowsOf keys lengths))) ≤ 634 * length lengths
+        → sum (map (syncLength identity) (cond t ((key , n) ∷ keep (under subtree) (rowsOf keys lengths)) (keep (under subtree) (rowsOf keys lengths)))) ≤ 634 * length (n ∷ lengths)
+    go true h = omega (arith, h, short-frame identity 255 i (omega arith), short-frame (length key) 96 (k .0) (omega arith), value-frame n value)
+    go false h = omega (arith, h)
+
+pub snapshot-short : (identity : ℕ) (subtree : Bytes) (keys : Bytes) (kl vl : List ℕ) (n : ℕ) → n ≤ 64 → lengthsFit 256 n vl ≡ true → identity ≤ 255 → length subtree ≤ 96
+    → snapshotLength identity subtree (lengthRows n keys kl vl) ≤ 40954
+unfolding snapshotLength
+snapshot-short identity subtree keys kl vl n c v i t =
+    omega
+    (arith, rows-bound identity subtree i (texts 96 n kl keys) (take n vl) (texts-short 96 n kl keys) v, length-take n vl, short-frame identity 255 i (omega arith), short-frame (length subtree) 96 t (omega arith))

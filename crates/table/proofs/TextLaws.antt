@@ -6,13 +6,13 @@ use mathlib.Core.Bool.{Bool, true}
 use mathlib.Core.List.{List, [], _∷_, zipWith}
 use mathlib.Core.Path.{_≡_, refl, sym, _∙_}
 use lib.Dec.{leb}
-use lib.ListN.{length, getD, take}
+use lib.ListN.{length, getD, take, drop, length-take}
 use lib.Seq.{getD-take, length-take-le}
 use borrow.Author.Tests.{leb-true, le-leb}
 use Rattle.base.proofs.ByteLaws.{and-left, and-right}
 use Rattle.base.specs.Bytes.{Bytes, every}
 use Rattle.cells.proofs.CellLaws.{length-cells, cell-at}
-use Rattle.cells.specs.Cells.{cells, cellAt}
+use Rattle.cells.specs.Cells.{cells, cellAt, All}
 use Rattle.table.proofs.ChangeLaws.{length-zip}
 use Rattle.table.specs.Columns.{texts, within, lengthsFit}
 
@@ -60,3 +60,19 @@ module _ (s n : ℕ) (lens : List ℕ) where
   pub length-texts : n ≤ length lens → (all : Bytes) → length (texts s n lens all) ≡ n
   unfolding texts
   length-texts fits all = length-zip take n (take n lens) (cells s n all) (length-take-le n lens fits) (length-cells s n all)
+
+-- no text is longer than its cell
+cells-short : (s n : ℕ) (all : Bytes) → All (λ (c : Bytes). length c ≤ s) (cells s n all)
+unfolding cells
+cells-short s zero all = tt
+cells-short s (suc n) all = (omega (arith, length-take s all), cells-short s n (drop s all))
+
+parts-short : (s : ℕ) (lens : List ℕ) (parts : List Bytes) → All (λ (c : Bytes). length c ≤ s) parts → All (λ (c : Bytes). length c ≤ s) (zipWith take lens parts)
+unfolding zipWith
+parts-short s [] parts h = tt
+parts-short s (n ∷ lens) [] h = tt
+parts-short s (n ∷ lens) (p ∷ parts) h = (omega (arith, length-take n p, h .0), parts-short s lens parts (h .1))
+
+pub texts-short : (s n : ℕ) (lens : List ℕ) (all : Bytes) → All (λ (t : Bytes). length t ≤ s) (texts s n lens all)
+unfolding texts
+texts-short s n lens all = parts-short s (take n lens) (cells s n all) (cells-short s n all)

@@ -4,11 +4,14 @@ use answers::refusal;
 use answers::refusal::Verdict;
 use base::bytes;
 use client_ports::snapshot;
+use client_ports::snapshot::Sent;
 use client_ports::subscriber;
-use frames::read;
+use client_ports::subscriber::Published;
+use framing::Split;
 use messages::PROPERTIES;
 use parts::walk;
 use parts::walk::Taken;
+use ports::update::Update;
 use ports::value;
 use properties::read::Lifetime;
 use properties::read::Properties;
@@ -62,18 +65,19 @@ pub(crate) fn judge(label: &[u8], msg: &[u8]) {
     print::text(label);
     print::number(b": value entries ", value::value_refusal(msg));
     print::number(b" of ", value::value_frame(msg).len() as u64);
-    verdict(b", kvset ", kvset::check_kvset(msg));
-    verdict(b", icanhaz ", icanhaz::check_icanhaz(msg));
-    verdict(b", snapshot ", snapshot::check_snapshot(msg, b"/clip/7/"));
-    verdict(b", subscriber ", subscriber::check_subscriber(msg));
-    lifetime(read::body(msg, PROPERTIES));
+    let split = framing::split_message(msg);
+    verdict(b", kvset ", at_kvset(msg, split));
+    verdict(b", icanhaz ", icanhaz::check_icanhaz(msg, split));
+    verdict(b", snapshot ", at_snapshot(msg, split));
+    verdict(b", subscriber ", at_subscriber(msg, split));
+    lifetime(framing::body(msg, split.places, PROPERTIES));
     print::text(b"; frames");
-    split(msg);
+    list_frames(msg);
     print::text(b"\n");
 }
 
 // Each frame by the length of its body, with a plus sign if another one follows.
-fn split(s: &[u8]) {
+fn list_frames(s: &[u8]) {
     let mut at = 0;
     let mut inside = false;
     loop {
@@ -86,6 +90,29 @@ fn split(s: &[u8]) {
         }
         at = start + len;
         inside = more;
+    }
+}
+
+fn at_kvset(msg: &[u8], split: Split) -> Verdict {
+    match kvset::read_kvset(msg, split) {
+        Update::Refuse(r) => Verdict::Refuse(r),
+        Update::Lasting(_) => Verdict::Accept,
+    }
+}
+
+fn at_snapshot(msg: &[u8], split: Split) -> Verdict {
+    match snapshot::read_sent(msg, split, b"/clip/7/") {
+        Sent::Refuse(r) => Verdict::Refuse(r),
+        Sent::Kthxbai(_) => Verdict::Accept,
+        Sent::Kvsync => Verdict::Accept,
+    }
+}
+
+fn at_subscriber(msg: &[u8], split: Split) -> Verdict {
+    match subscriber::read_published(msg, split) {
+        Published::Refuse(r) => Verdict::Refuse(r),
+        Published::Hugz => Verdict::Accept,
+        Published::Kvpub(_) => Verdict::Accept,
     }
 }
 

@@ -1,57 +1,74 @@
--- `client_plan::subscriber::plan_subscriber` meets its contract: the frames, and then what the message does. Assumes nothing.
+-- `client_plan::subscriber::plan_subscriber` meets its contract: the state, the frames, and then what the message does. Assumes nothing.
 use mathlib.Core.List.{List, _++_}
+use mathlib.Core.Option.{Option, none}
 use mathlib.Core.Path.{_≡_, sym, ap, _∙_}
+use borrow.Author.Needs.{needs}
 use denote.Ref.{now}
-use Rattle.answers.proofs.VerdictLaws.{accepted, past-accepted, past-refused}
-use Rattle.answers.specs.Refusals.{verdict}
+use Rattle.answers.proofs.VerdictLaws.{accepted, past-refused}
 use Rattle.answers.specs.declared.refusal.Refusal.{Refusal}
-use Rattle.answers.specs.declared.refusal.Verdict.the-variants.{Accept}
-use Rattle.base.specs.Checks.{Check, firstOf}
-use mathlib.Core.Option.{Option}
+use Rattle.base.proofs.CheckLaws.{pass-all, stop-all}
 use Rattle.base.specs.Bytes.{Bytes}
-use Rattle.client_state.specs.Views.{isWaiting}
-use Rattle.client_plan.proofs.MessageLaws.{published-sequence}
+use Rattle.base.specs.Checks.{Check, firstOf}
+use Rattle.client_plan.proofs.PlanLaws.{hears, updates}
 use Rattle.client_plan.specs.Effects.{Effect, subscriberEffect}
 use Rattle.client_plan.specs.Plans.{planOf, planBy}
 use Rattle.client_plan.specs.Refusals.{effectChecks, timeChecks}
 use Rattle.client_plan.specs.declared.plan.Plan.{Plan}
-use Rattle.messages.specs.Fields.{Fields, fieldsOf}
-use Rattle.ports.proofs.PortLaws.{port-fields}
-use Rattle.ports.specs.Ports.{publishedChecks, subscriberPort}
+use Rattle.client_ports.proofs.ReadLaws.{published-not, published-beat, published-update}
+use Rattle.client_state.proofs.FormLaws.{Good, good-columns}
+use Rattle.client_state.specs.IllFormed.{illForms}
+use Rattle.client_state.specs.Views.{isWaiting}
+use Rattle.messages.specs.Fields.{Fields}
+use Rattle.ports.specs.Bodies.{fieldsAt, subscriberBy}
 use Rattle.table.specs.Columns.{texts}
 use Rattle.table.specs.Find.{placeOf, isFound}
-use borrow.Author.Needs.{needs}
 use Rattle.client_plan.proofs.subscriber.plan_subscriber.Statement.{statement}
 use Rattle.client_plan.proofs.subscriber.plan_subscriber.Tie as tie
 
 -- ---- the tables of checks
+abbrev state : tie.Start → List (Check Refusal)
+state s =
+    illForms (now (s .args .keys)) (now (s .args .key-lengths)) (now (s .args .value-lengths)) (s .args .count) (now (s .args .subtree)) (s .args .subtree-length) (s .args .header)
+
+abbrev fields : tie.Start → Fields
+fields s = fieldsAt (now (s .args .msg)) (s .args .split .places)
+
 abbrev frames : tie.Start → List (Check Refusal)
-frames s = subscriberPort (now (s .args .msg))
+frames s = subscriberBy (now (s .args .msg)) (s .args .split)
 
 abbrev keys : tie.Start → List Bytes
 keys s = texts 96 (s .args .count) (now (s .args .key-lengths)) (now (s .args .keys))
 
-abbrev effectOf : tie.Start → Fields → Effect
-effectOf s f = subscriberEffect (s .args .header .number .0) (now (s .args .subtree)) f (s .args .tick .0)
+abbrev effect : tie.Start → Effect
+effect s = subscriberEffect (s .args .header .number .0) (now (s .args .subtree)) (fields s) (s .args .tick .0)
 
-abbrev effect : tie.Start → Fields → List (Check Refusal)
-effect s f =
-    timeChecks (s .args .header .clock .0) f (s .args .tick .0)
-    ++ effectChecks (isWaiting (s .args .header .phase)) (λ (k : Bytes). isFound (placeOf 0 k (keys s))) (s .args .count) (effectOf s f)
-
-abbrev fields : tie.Start → Fields
-fields s = fieldsOf (now (s .args .msg))
+abbrev rest : tie.Start → List (Check Refusal)
+rest s =
+    timeChecks (s .args .header .clock .0) (fields s) (s .args .tick .0)
+    ++ effectChecks (isWaiting (s .args .header .phase)) (λ (k : Bytes). isFound (placeOf 0 k (keys s))) (s .args .count) (effect s)
 
 -- what a first refusal, or none, comes to
-abbrev planFor : tie.Start → Fields → Option Refusal → Plan
-planFor s f x = planOf x (planBy (s .args .header) (keys s) (effectOf s f))
-
 abbrev plan : tie.Start → Option Refusal → Plan
-plan s x = planFor s (fields s) x
+plan s x = planOf x (planBy (s .args .header) (keys s) (effect s))
 
--- ---- what passed
-good-frames : (c : tie.After-enum-told) → Accept ≡ verdict (firstOf (frames (c .before .before .before .before .before)))
-good-frames c = sym (c .enum-told .given .1) ∙ c .before .before .check-subscriber .ensures
+-- ---- a well-formed state
+good-state : (c : tie.After-enum-told) → firstOf (state (c .before .before .before .before .before)) ≡ none
+good-state c = accepted (firstOf (state (c .before .before .before .before .before))) (sym (c .enum-told .given .1) ∙ c .before .before .check-state .ensures)
+
+good : (c : tie.After-enum-told) → Good (now (c .before .before .before .before .before .args .keys)) (now (c .before .before .before .before .before .args .key-lengths)) (now (c .before .before .before .before .before .args .value-lengths)) (c .before .before .before .before .before .args .count) (now (c .before .before .before .before .before .args .subtree)) (c .before .before .before .before .before .args .subtree-length) (c .before .before .before .before .before .args .header)
+good c = good-columns _ _ _ _ _ _ _ (good-state c)
+
+-- a message whose frames are good too
+behind : (c : tie.After-enum-told) → firstOf (frames (c .before .before .before .before .before)) ≡ none → {p : Plan} → p ≡ plan (c .before .before .before .before .before) (firstOf (rest (c .before .before .before .before .before)))
+    → p ≡ plan (c .before .before .before .before .before) (firstOf (state (c .before .before .before .before .before) ++ (frames (c .before .before .before .before .before) ++ rest (c .before .before .before .before .before))))
+behind c e p-is =
+    let s = c .before .before .before .before .before in
+    p-is
+    ∙ sym (ap (plan s) (pass-all (frames s) (rest s) e))
+    ∙ sym (ap (plan s) (pass-all (state s) (frames s ++ rest s) (good-state c)))
+
+check-state-requires : tie.Need-check-state-requires
+check-state-requires c κs = search needs
 
 enum-known-r : tie.Need-enum-known-r
 enum-known-r c = search needs
@@ -59,34 +76,69 @@ enum-known-r c = search needs
 enum-told : tie.Need-enum-told
 enum-told c = search needs
 
-check-subscriber-requires : tie.Need-check-subscriber-requires
-check-subscriber-requires c κs = search needs
+read-published-requires : tie.Need-read-published-requires
+read-published-requires c κs = search needs
 
-plan-published-requires : tie.Need-plan-published-requires
-plan-published-requires c κs =
-    let s = c .before .before .before .before .before in
-    let columns = s .pre in
-    (columns .0, (columns .1 .0, (columns .1 .1, published-sequence (now (s .args .msg)) (accepted (firstOf (frames s)) (good-frames c)))))
+enum-known-r-2 : tie.Need-enum-known-r-2
+enum-known-r-2 c = search needs
+
+enum-told-2 : tie.Need-enum-told-2
+enum-told-2 c = search needs
+
+plan-hugz-requires : tie.Need-plan-hugz-requires
+plan-hugz-requires c κs = search needs
+
+enum-known-next : tie.Need-enum-known-next
+enum-known-next c = search needs
+
+body-requires : tie.Need-body-requires
+body-requires c κs = search needs
+
+body-requires-2 : tie.Need-body-requires-2
+body-requires-2 c κs = search needs
+
+plan-kvpub-requires : tie.Need-plan-kvpub-requires
+plan-kvpub-requires c κs = let g = good (c .before .before .before .before .before .before) in (g .rows .count, (g .rows .key-lengths, g .rows .rise))
 
 returns : tie.Need-returns
-returns c =
+returns c = 
     let s = c .before .before .before .before .before .before in
-    past-refused (plan s) (frames s) (effect s (fields s)) _ (sym (c .before .r .given .1) ∙ c .before .before .before .check-subscriber .ensures)
+    past-refused (plan s) (state s) (frames s ++ rest s) _ (sym (c .before .r .given .1) ∙ c .before .before .before .check-state .ensures)
 
 returns-2 : tie.Need-returns-2
-returns-2 c =
-    let s = c .before .before .before .before .before .before in
-    c .plan-published .ensures
-    ∙ ap (λ (f : Fields). planFor s f (firstOf (effect s f))) (port-fields (now (s .args .msg)) (publishedChecks (fields s)) (accepted (firstOf (frames s)) (good-frames (c .before))))
-    ∙ sym (ap (plan s) (past-accepted (frames s) (effect s (fields s)) (good-frames (c .before))))
+returns-2 c = 
+    let s = c .before .before .before .before .before .before .before .before .before in
+    sym (ap (plan s) (stop-all (frames s) (rest s) _ (published-not (fields s) (firstOf (frames s)) _ (sym (c .before .r2 .given .1) ∙ c .before .before .before .read-published .ensures))))
+    ∙ sym (ap (plan s) (pass-all (state s) (frames s ++ rest s) (good-state (c .before .before .before .before))))
+
+returns-3 : tie.Need-returns-3
+returns-3 c = 
+    let s = c .before .before .before .before .before .before .before .before .before in
+    let k = published-beat (fields s) (firstOf (frames s)) (sym (c .before .enum-told2 .given .1) ∙ c .before .before .before .read-published .ensures) in
+    behind (c .before .before .before .before) (k .0) (hears (keys s) (s .args .count) (s .args .header) (fields s) (now (s .args .subtree)) (s .args .tick .0) (k .1) (c .plan-hugz .ensures))
+
+returns-4 : tie.Need-returns-4
+returns-4 c = 
+    let s = c .before .before .before .before .before .before .before .before .before .before .before .before in
+    let k = published-update (fields s) (firstOf (frames s)) _ (sym (c .before .before .before .before .next .given .1) ∙ c .before .before .before .before .before .before .read-published .ensures) in
+    behind (c .before .before .before .before .before .before .before) (k .0) (updates (keys s) (s .args .count) (s .args .header) (fields s) (now (s .args .subtree)) (s .args .tick .0) (k .1 .0) (k .1 .1) (c .before .before .body .ensures) (c .before .body2 .ensures) (c .plan-kvpub .ensures))
 
 pub plan-subscriber-spec : {M : Type 1} → statement M
 plan-subscriber-spec =
     tie.close
     (tie.spec
-    check-subscriber-requires
+    check-state-requires
     enum-known-r
     enum-told
-    plan-published-requires
+    read-published-requires
+    enum-known-r-2
+    enum-told-2
+    plan-hugz-requires
+    enum-known-next
+    body-requires
+    body-requires-2
+    plan-kvpub-requires
     returns
-    returns-2)
+    returns-2
+    returns-3
+    returns-4)

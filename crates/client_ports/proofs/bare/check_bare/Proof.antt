@@ -9,7 +9,7 @@ use Rattle.answers.specs.declared.refusal.Refusal.{Refusal}
 use Rattle.answers.specs.declared.refusal.Verdict.{Verdict}
 use Rattle.base.proofs.CheckLaws.{Left, pass, stop, done}
 use Rattle.base.specs.Checks.{Check, firstOf}
-use Rattle.frames.specs.Messages.{bodyAt}
+use Rattle.framing.specs.Splits.{bodyIn}
 use Rattle.ports.proofs.PortLaws.{empty-pass, empty-stop}
 use Rattle.ports.specs.Ports.{bareChecks}
 use borrow.Author.Needs.{needs}
@@ -17,7 +17,7 @@ use Rattle.client_ports.proofs.bare.check_bare.Statement.{statement}
 use Rattle.client_ports.proofs.bare.check_bare.Tie as tie
 
 abbrev table : tie.Start → List (Check Refusal)
-table s = bareChecks (bodyAt 2 (now (s .args .msg))) (bodyAt 3 (now (s .args .msg)))
+table s = bareChecks (bodyIn (now (s .args .msg)) (s .args .places) 2) (bodyIn (now (s .args .msg)) (s .args .places) 3)
 
 abbrev answer : tie.Start → Verdict
 answer s = verdict (firstOf (table s))

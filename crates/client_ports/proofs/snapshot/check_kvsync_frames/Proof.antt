@@ -9,17 +9,17 @@ use Rattle.answers.specs.declared.refusal.Refusal.{Refusal}
 use Rattle.answers.specs.declared.refusal.Verdict.{Verdict}
 use Rattle.base.proofs.CheckLaws.{Left, pass, stop, pass-table, stop-table}
 use Rattle.base.specs.Checks.{Check, firstOf}
-use Rattle.frames.specs.Messages.{bodyAt}
+use Rattle.framing.specs.Splits.{bodyIn}
 use Rattle.names.specs.Keys.{isKey, under}
 use Rattle.ports.proofs.PortLaws.{told, unnumbered-stop, numbered-pass}
-use Rattle.ports.specs.Bodies.{bodiesOf}
+use Rattle.ports.specs.Bodies.{fieldsAt}
 use Rattle.ports.specs.Ports.{bareChecks, heldChecks, kvsyncChecks}
 use borrow.Author.Needs.{needs}
 use Rattle.client_ports.proofs.snapshot.check_kvsync_frames.Statement.{statement}
 use Rattle.client_ports.proofs.snapshot.check_kvsync_frames.Tie as tie
 
 abbrev table : tie.Start → List (Check Refusal)
-table s = kvsyncChecks (now (s .args .subtree)) (bodiesOf (now (s .args .msg)))
+table s = kvsyncChecks (now (s .args .subtree)) (fieldsAt (now (s .args .msg)) (s .args .places))
 
 abbrev answer : tie.Start → Verdict
 answer s = verdict (firstOf (table s))
@@ -28,10 +28,10 @@ whole : (s : tie.Start) → Left verdict (answer s) (table s)
 whole s = record { is = refl }
 
 abbrev bare : tie.Start → List (Check Refusal)
-bare s = bareChecks (bodyAt 2 (now (s .args .msg))) (bodyAt 3 (now (s .args .msg)))
+bare s = bareChecks (bodyIn (now (s .args .msg)) (s .args .places) 2) (bodyIn (now (s .args .msg)) (s .args .places) 3)
 
 abbrev held : tie.Start → List (Check Refusal)
-held s = heldChecks (bodyAt 4 (now (s .args .msg)))
+held s = heldChecks (bodyIn (now (s .args .msg)) (s .args .places) 4)
 
 past-key : (c : tie.Else1) → Left verdict (answer (c .before .before .before .before .before)) (drop 1 (table (c .before .before .before .before .before)))
 past-key c = pass (whole (c .before .before .before .before .before)) (told (c .before .before .body .ensures) isKey (c .before .is-key .ensures) (c .if1 .left))

@@ -15,18 +15,18 @@ use Rattle.base.specs.Checks.{Check, firstOf}
 use Rattle.base.specs.Bytes.{isNil}
 use Rattle.base.specs.Checks.Check.{when}
 use Rattle.base.specs.Octets.{number}
-use Rattle.frames.specs.Messages.{bodyAt}
+use Rattle.framing.specs.Splits.{bodyIn}
 use Rattle.names.specs.Numbers.{numberedOf}
 use Rattle.names.specs.declared.numbers.Numbered.the-variants.{By}
 use Rattle.ports.proofs.PortLaws.{empty-pass, empty-stop, unnumbered-stop, numbered-pass, number-is}
-use Rattle.ports.specs.Bodies.{bodiesOf}
+use Rattle.ports.specs.Bodies.{fieldsAt}
 use Rattle.ports.specs.Ports.{bareChecks, hugzChecks}
 use borrow.Author.Needs.{needs}
 use Rattle.client_ports.proofs.subscriber.check_hugz_frames.Statement.{statement}
 use Rattle.client_ports.proofs.subscriber.check_hugz_frames.Tie as tie
 
 abbrev table : tie.Start → List (Check Refusal)
-table s = hugzChecks (bodiesOf (now (s .args .msg)))
+table s = hugzChecks (fieldsAt (now (s .args .msg)) (s .args .places))
 
 abbrev answer : tie.Start → Verdict
 answer s = verdict (firstOf (table s))
@@ -35,10 +35,10 @@ whole : (s : tie.Start) → Left verdict (answer s) (table s)
 whole s = record { is = refl }
 
 abbrev bare : tie.Start → List (Check Refusal)
-bare s = bareChecks (bodyAt 2 (now (s .args .msg))) (bodyAt 3 (now (s .args .msg)))
+bare s = bareChecks (bodyIn (now (s .args .msg)) (s .args .places) 2) (bodyIn (now (s .args .msg)) (s .args .places) 3)
 
 abbrev empty : tie.Start → List (Check Refusal)
-empty s = when (not (isNil (bodyAt 4 (now (s .args .msg))))) BadValue ∷ []
+empty s = when (not (isNil (bodyIn (now (s .args .msg)) (s .args .places) 4))) BadValue ∷ []
 
 numbered-by : (c : tie.After-n) → By (c .n .given .0 .0) ≡ numberedOf (now (c .before .before .before .body .result))
 numbered-by c = sym (c .n .given .1) ∙ c .before .before .read-sequence .ensures
@@ -46,7 +46,7 @@ numbered-by c = sym (c .n .given .1) ∙ c .before .before .read-sequence .ensur
 past-length : (c : tie.After-n) → Left verdict (answer (c .before .before .before .before .before)) (drop 1 (table (c .before .before .before .before .before)))
 past-length c = pass (whole (c .before .before .before .before .before)) (numbered-pass (c .before .before .before .body .ensures) _ (numbered-by c))
 
-number-told : (c : tie.After-n) → number (bodyAt 1 (now (c .before .before .before .before .before .args .msg))) ≡ c .n .given .0 .0 .0
+number-told : (c : tie.After-n) → number (bodyIn (now (c .before .before .before .before .before .args .msg)) (c .before .before .before .before .before .args .places) 1) ≡ c .n .given .0 .0 .0
 number-told c = number-is (c .before .before .before .body .ensures) _ (numbered-by c)
 
 past-sequence : (c : tie.Else1) → Left verdict (answer (c .before .before .before .before .before .before .before .before)) (drop 2 (table (c .before .before .before .before .before .before .before .before)))

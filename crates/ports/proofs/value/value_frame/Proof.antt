@@ -5,15 +5,17 @@ use borrow.Author.Needs.{needs}
 use denote.Ref.{now}
 use Rattle.answers.proofs.VerdictLaws.{accepted, refused}
 use Rattle.answers.specs.Refusals.{verdict}
-use Rattle.answers.specs.declared.refusal.Verdict.the-variants.{Accept}
 use Rattle.base.specs.Checks.{firstOf}
-use Rattle.ports.proofs.PortLaws.{frame-is}
+use Rattle.ports.proofs.PortLaws.{verdict-is, body-is}
 use Rattle.ports.specs.Ports.{framed, valueIn}
 use Rattle.ports.proofs.value.value_frame.Statement.{statement}
 use Rattle.ports.proofs.value.value_frame.Tie as tie
 
-accepted-so : (c : tie.After-enum-told) → Accept ≡ verdict (firstOf (framed 5 (now (c .before .before .before .before .args .msg))))
-accepted-so c = sym (c .enum-told .given .1) ∙ c .before .before .check-framing .ensures
+judged : (c : tie.After-check-framing) → c .check-framing .result ≡ verdict (firstOf (framed 5 (now (c .before .before .before .args .msg))))
+judged c = c .check-framing .ensures ∙ verdict-is _ _ (c .before .split-message .ensures) 5
+
+split-message-requires : tie.Need-split-message-requires
+split-message-requires c κs = search needs
 
 check-framing-requires : tie.Need-check-framing-requires
 check-framing-requires c κs = search needs
@@ -29,22 +31,23 @@ slice-aggregate-result c = search needs
 
 returns : tie.Need-returns
 unfolding valueIn
-returns c =
-    let msg = now (c .before .before .before .before .before .args .msg) in
-    rw (refused _ (firstOf (framed 5 msg)) (sym (c .before .enum-told2 .given .1) ∙ c .before .before .before .check-framing .ensures))
+returns c = rw (refused _ (firstOf (framed 5 (now (c .before .before .before .before .before .before .args .msg)))) (sym (c .before .enum-told2 .given .1) ∙ judged (c .before .before .before)))
 
 body-requires : tie.Need-body-requires
 body-requires c κs = search needs
 
 returns-2 : tie.Need-returns-2
 unfolding valueIn
-returns-2 c =
-    c .body .ensures ∙ frame-is 5 _ (accepted-so (c .before)) 4 (omega arith) ∙ rw (accepted (firstOf (framed 5 (now (c .before .before .before .before .before .args .msg)))) (accepted-so (c .before)))
+returns-2 c = 
+    c .body .ensures
+    ∙ body-is _ _ (c .before .before .before .before .split-message .ensures) 4 (omega arith)
+    ∙ rw (accepted (firstOf (framed 5 (now (c .before .before .before .before .before .before .args .msg)))) (sym (c .before .enum-told .given .1) ∙ judged (c .before .before .before)))
 
 pub value-frame-spec : {M : Type 1} → statement M
 value-frame-spec =
     tie.close
     (tie.spec
+    split-message-requires
     check-framing-requires
     enum-told
     enum-told-2

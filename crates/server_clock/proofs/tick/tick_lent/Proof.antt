@@ -4,7 +4,7 @@ use mathlib.Core.List.{[]}
 use mathlib.Core.Path.{_≡_, refl}
 use denote.Ref.{now}
 use borrow.Author.Needs.{needs}
-use Rattle.server_clock.proofs.TickLaws.{RowKnown, row-holds, tick-refused, tick-quiet, tick-beat, tick-expired}
+use Rattle.server_clock.proofs.TickLaws.{RowKnown, row-holds, row-number, tick-refused, tick-quiet, tick-beat, tick-expired}
 use Rattle.server_state.specs.Views.{SizedServer}
 use lib.ListN.{length}
 use Rattle.server_plan.specs.Lent.{lent}
@@ -47,7 +47,7 @@ known : (c : tie.After-i) → RowKnown (state (begin (c .before .before))) (c .i
 known c =
     let p = c .before .before in
     let s = begin p in
-    row-holds (state s) (s .args .tick) (now (s .args .out)) (sized p) (p .plan-tick .ensures) (c .i .given .0 .0) (c .i .given .1)
+    row-holds (state s) (s .args .tick) (now (s .args .out)) (sized p) (p .plan-tick .ensures) (c .i .given .0 .0) (c .i .given .0 .1 .0) (c .i .given .1)
 
 plan-tick-requires : tie.Need-plan-tick-requires
 plan-tick-requires c κs = search needs
@@ -68,11 +68,8 @@ returns c =
 enum-known-i : tie.Need-enum-known-i
 enum-known-i c = search needs
 
-next-number-requires : tie.Need-next-number-requires
-next-number-requires c κs = known (c .before) .number
-
 key-at-requires : tie.Need-key-at-requires
-key-at-requires c κs = known (c .before .before .before .before) .key
+key-at-requires c κs = known (c .before .before .before) .key
 
 slice-aggregate-write-kvpub : tie.Need-slice-aggregate-write-kvpub
 slice-aggregate-write-kvpub c = search needs
@@ -96,13 +93,13 @@ fresh-row-requires : tie.Need-fresh-row-requires
 fresh-row-requires c κs = search needs
 
 change-row-requires : tie.Need-change-row-requires
-change-row-requires c κs = known (c .before .before .before .before .before .before .before .before .before .before .before .before .before .before .before .before .before .before .before) .fits
+change-row-requires c κs = known (c .before .before .before .before .before .before .before .before .before .before .before .before .before .before .before .before .before .before) .fits
 
 change-numbers-requires : tie.Need-change-numbers-requires
-change-numbers-requires c κs = known (c .before .before .before .before .before .before .before .before .before .before .before .before .before .before .before .before .before .before .before .before .before) .fits
+change-numbers-requires c κs = known (c .before .before .before .before .before .before .before .before .before .before .before .before .before .before .before .before .before .before .before .before) .fits
 
 change-numbers-requires-2 : tie.Need-change-numbers-requires-2
-change-numbers-requires-2 c κs = known (c .before .before .before .before .before .before .before .before .before .before .before .before .before .before .before .before .before .before .before .before .before .before .before) .fits
+change-numbers-requires-2 c κs = known (c .before .before .before .before .before .before .before .before .before .before .before .before .before .before .before .before .before .before .before .before .before .before) .fits
 
 with-output-requires : tie.Need-with-output-requires
 with-output-requires c κs = search needs
@@ -118,14 +115,13 @@ returns-2 c =
     let e = k .change-row .ensures in
     let w = k .before .before .before .before .before .before .before .before .before .before in
     let a = w .before .before .before .before .before in
-    let m = a .before .before .before in
-    let r = m .before .before in
+    let r = a .before .before .before .before in
     let p = r .before .before in
     let s = begin p in
-    tick-expired (state s) (s .args .tick) (now (s .args .out)) (sized p) (p .plan-tick .ensures) (r .i .given .0 .0) (r .i .given .1)
-    _ [] [] (m .next-number .result) (w .write-kvpub .result) (w .write-kvpub .last .0)
+    tick-expired (state s) (s .args .tick) (now (s .args .out)) (sized p) (p .plan-tick .ensures) (r .i .given .0 .0) (r .i .given .0 .1 .0) (r .i .given .1)
+    _ [] [] (r .i .given .0 .1 .0) (w .write-kvpub .result) (w .write-kvpub .last .0)
     (record { table = record { of-keys = e .of-keys; of-values = e .of-values; of-key-lengths = e .of-key-lengths; of-value-lengths = e .of-value-lengths; of-count = e .of-count }; of-numbers = n1 .change-numbers .ensures; of-expiries = n2 .change-numbers2 .ensures })
-    refl (m .next-number .ensures) (a .key-at .ensures) (w .write-kvpub .ensures) (c .with-output .ensures)
+    refl (row-number (state s) (s .args .tick) (now (s .args .out)) (sized p) (p .plan-tick .ensures) (r .i .given .0 .0) (r .i .given .0 .1 .0) (r .i .given .1)) (a .key-at .ensures) (w .write-kvpub .ensures) (c .with-output .ensures)
 
 enum-told : tie.Need-enum-told
 enum-told c = search needs
@@ -169,7 +165,6 @@ tick-lent-spec =
     without-output-requires
     returns
     enum-known-i
-    next-number-requires
     key-at-requires
     slice-aggregate-write-kvpub
     slice-aggregate-write-kvpub-2

@@ -7,7 +7,7 @@ use borrow.Author.Needs.{needs}
 use Rattle.base.specs.Bytes.{Bytes}
 use Rattle.table.proofs.TextLaws.{text-is, fit-at}
 use Rattle.table.specs.Columns.{texts}
-use Rattle.server_plan.proofs.DeedLaws.{due-below, exhausted, too-short, goes, is-quiet, no-beat, beats}
+use Rattle.server_plan.proofs.DeedLaws.{due-below, key-fits, exhausted, too-short, goes, is-quiet, no-beat, beats}
 use Rattle.server_plan.proofs.tick.plan_deed.Statement.{statement}
 use Rattle.server_plan.proofs.tick.plan_deed.Tie as tie
 
@@ -67,15 +67,19 @@ returns-4 c =
     no-beat (keysIn s) (s .args .tick .0) (s .args .header .«last_published» .0) (s .args .header .number .0) (s .args .room) (s .args .count) (now (s .args .expiries))
     (d .before .before .due-row .ensures) (d .enum-told .given .1) (c .before .if3 .left) (c .if4 .taken)
 
+add-t19 : tie.Need-add-t19
+add-t19 c = omega (arith, c .before .before .before .before .before .before .before .before .before .before .before .before .pre .1 .1 .1)
+
 returns-5 : tie.Need-returns-5
 returns-5 c =
-    let k = c .before .before in
+    let k = c .before .before .before in
     let d = k .before .before .before .before in
     let s = d .before .before .before .before .before in
     let h = due-below (keysIn s) (s .args .tick .0) 0 0 0 (s .args .count) (now (s .args .expiries)) (d .before .before .due-row .ensures) (d .i .given .1) in
     goes (keysIn s) (s .args .tick .0) (s .args .header .«last_published» .0) (s .args .header .number .0) (s .args .room) (s .args .count) (now (s .args .expiries))
     (d .before .before .due-row .ensures) (d .i .given .1) (k .before .if1 .left)
-    (text-is 96 (s .args .count) (now (s .args .key-lengths)) (now (s .args .keys)) _ h (k .key-at .ensures)) (c .before .message-length .ensures) (s .pre .1 .1 .1) (c .if2 .left)
+    (text-is 96 (s .args .count) (now (s .args .key-lengths)) (now (s .args .keys)) _ h (k .key-at .ensures)) (c .before .before .message-length .ensures)
+    (key-fits _ _ _ (k .key-at .ensures) (fit-at 96 (s .args .count) (now (s .args .key-lengths)) (s .pre .1 .0) _ h)) (c .before .if2 .left)
 
 returns-6 : tie.Need-returns-6
 returns-6 c =
@@ -94,6 +98,7 @@ plan-deed-spec =
     key-at-requires
     message-length-requires
     returns-2
+    add-t19
     enum-told
     sub-if3
     returns-3

@@ -36,7 +36,7 @@ deeds s = deedChecks (s .args .header .number .0) (deedAt (s .args .tick .0) (s 
 
 -- what a first refusal, or none, comes to
 abbrev step : tie.Start → Option Refusal → Step
-step s x = stepOf x (s .args .tick .0) (s .args .header .«last_published» .0) (due s)
+step s x = stepOf x (s .args .header .number .0) (s .args .tick .0) (s .args .header .«last_published» .0) (due s)
 
 -- ---- what passed
 good-state : (c : tie.After-enum-told) → Accept ≡ verdict (firstOf (forms (c .before .before .before .before)))
@@ -69,7 +69,7 @@ plan-deed-requires c κs =
     let f = t .before in
     let a = f .before .before in
     let s = a .before .before in
-    deed-known (now (s .args .keys)) (now (s .args .key-lengths)) (now (s .args .value-lengths)) (now (s .args .numbers)) (now (s .args .expiries)) (s .args .count) (s .args .header) (s .args .tick .0) (s .args .room) (s .pre)
+    deed-known (now (s .args .keys)) (now (s .args .key-lengths)) (now (s .args .value-lengths)) (now (s .args .numbers)) (now (s .args .expiries)) (s .args .count) (s .args .header) (s .args .tick .0)
     (a .check-state .ensures) (f .enum-told .given .1) (t .check-tick .ensures) (c .enum-told2 .given .1)
 
 returns : tie.Need-returns

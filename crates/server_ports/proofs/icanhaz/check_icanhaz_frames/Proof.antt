@@ -10,7 +10,7 @@ use Rattle.answers.specs.declared.refusal.Verdict.{Verdict}
 use Rattle.base.proofs.CheckLaws.{Left, pass, stop, done}
 use Rattle.base.specs.Bytes.{same}
 use Rattle.base.specs.Checks.{Check, firstOf}
-use Rattle.frames.specs.Messages.{bodyAt}
+use Rattle.framing.specs.Splits.{bodyIn}
 use Rattle.names.specs.Keys.{isSubtree}
 use Rattle.names.specs.Lengths.{isIdentity}
 use Rattle.names.specs.Words.{wordIcanhaz}
@@ -20,7 +20,7 @@ use Rattle.server_ports.proofs.icanhaz.check_icanhaz_frames.Statement.{
 use Rattle.server_ports.proofs.icanhaz.check_icanhaz_frames.Tie as tie
 
 abbrev table : tie.Start → List (Check Refusal)
-table s = icanhazChecks (bodyAt 0 (now (s .args .msg))) (bodyAt 1 (now (s .args .msg))) (bodyAt 2 (now (s .args .msg)))
+table s = icanhazChecks (bodyIn (now (s .args .msg)) (s .args .places) 0) (bodyIn (now (s .args .msg)) (s .args .places) 1) (bodyIn (now (s .args .msg)) (s .args .places) 2)
 
 abbrev answer : tie.Start → Verdict
 answer s = verdict (firstOf (table s))
