@@ -1,12 +1,14 @@
 // Bytes written as text.
 use base::bytes;
 use base::bytes::Position;
+ghost use mathlib.Core.Path.{_≡_};
 ghost use Prim.Native.Nat.{_≤_};
 ghost use lib.ListN.{length};
+ghost use Rattle.base.specs.Cuts.{before};
 
-// The place of a byte, or the length where it is nowhere.
+// How many bytes are before the first b: all of them where there is none.
 pub fn place(s: &[u8], b: u8) -> usize
-    ensures { λ r. ⌜ r ≤ length (now (s .entry)) ⌝ }
+    ensures { λ r. ⌜ (r ≡ length (before b (now (s .entry)))) × (r ≤ length (now (s .entry))) ⌝ }
 {
     match bytes::find_byte(s, b) {
         Position::At(i) => i,

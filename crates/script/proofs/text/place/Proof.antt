@@ -1,8 +1,7 @@
--- `script::text::place` meets its contract: what is found is found within. Assumes nothing.
-use native.Mathlib.Omega.{arith}
+-- `script::text::place` meets its contract: the place of a byte is the number of bytes before it. Assumes nothing.
 use mathlib.Core.Path.{sym, _∙_}
 use borrow.Author.Needs.{needs}
-use Rattle.base.proofs.CutLaws.{cut-at}
+use Rattle.script.proofs.LineLaws.{place-found, place-nowhere}
 use Rattle.script.proofs.text.place.Statement.{statement}
 use Rattle.script.proofs.text.place.Tie as tie
 
@@ -16,10 +15,10 @@ enum-told : tie.Need-enum-told
 enum-told c = search needs
 
 returns : tie.Need-returns
-returns c = omega (arith, cut-at _ _ _ (sym (c .before .i .given .1) ∙ c .before .before .before .find-byte .ensures) .below)
+returns c = place-found _ _ _ (sym (c .before .i .given .1) ∙ c .before .before .before .find-byte .ensures)
 
 returns-2 : tie.Need-returns-2
-returns-2 c = search needs
+returns-2 c = place-nowhere _ _ (sym (c .enum-told .given .1) ∙ c .before .before .find-byte .ensures)
 
 pub place-spec : {M : Type 1} → statement M
 place-spec = tie.close (tie.spec find-byte-requires enum-known-i enum-told returns returns-2)
