@@ -1,3 +1,4 @@
 pub mod LineLaws
+pub mod MessageLaws
 pub mod NumberLaws
 pub mod TextLaws

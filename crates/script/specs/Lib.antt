@@ -1,3 +1,4 @@
 pub mod Lines
+pub mod Messages
 pub mod Numbers
 pub mod Texts

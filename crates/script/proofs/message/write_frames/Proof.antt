@@ -1,72 +1,25 @@
--- `script::message::write_frames` is safe and ends: the measure is what is left of the text. Assumes nothing.
-use Prim.Native.Nat.{_-_, _≤_}
-use mathlib.Core.Path.{_≡_}
-use lib.ListN.{length}
+-- `script::message::write_frames` meets its contract: all fits, or nothing is touched. Assumes nothing.
+use native.Mathlib.Omega.{arith}
 use borrow.Author.Needs.{needs}
+use Rattle.base.proofs.OutputLaws.{no-room}
 use Rattle.script.proofs.message.write_frames.Statement.{statement}
 use Rattle.script.proofs.message.write_frames.Tie as tie
 
-abbrev Inv-loop : tie.InvT-loop
-Inv-loop s out₀ i₀ at₀ out i at = (i ≤ length s) × (length out ≡ length out₀)
+frames-length-requires : tie.Need-frames-length-requires
+frames-length-requires c κs = search needs
 
-abbrev μ-loop : tie.MeasureT-loop
-μ-loop s out₀ i₀ at₀ out i at = length s - i
+returns : tie.Need-returns
+returns c = no-room (omega arith)
 
-loop-holds : tie.Need-loop-holds Inv-loop μ-loop
-loop-holds c = search needs
+put-fields-requires : tie.Need-put-fields-requires
+put-fields-requires c κs = search needs
 
-sub-rest : tie.Need-sub-rest Inv-loop μ-loop
-sub-rest c = search needs
-
-part-rest-start : tie.Need-part-rest-start Inv-loop μ-loop
-part-rest-start c = search needs
-
-part-rest-end : tie.Need-part-rest-end Inv-loop μ-loop
-part-rest-end c = search needs
-
-place-requires : tie.Need-place-requires Inv-loop μ-loop
-place-requires c κs = search needs
-
-front-requires : tie.Need-front-requires Inv-loop μ-loop
-front-requires c κs = search needs
-
-write-frame-requires : tie.Need-write-frame-requires Inv-loop μ-loop
-write-frame-requires c κs = search needs
-
-same-length : tie.Need-same-length Inv-loop μ-loop
+same-length : tie.Need-same-length
 same-length c = search needs
 
-returns : tie.Need-returns Inv-loop μ-loop
-returns c = search needs
-
-add-i : tie.Need-add-i Inv-loop μ-loop
-add-i c = search needs
-
-add-i-2 : tie.Need-add-i-2 Inv-loop μ-loop
-add-i-2 c = search needs
-
-loop-less : tie.Need-loop-less Inv-loop μ-loop
-loop-less c = search needs
-
-loop-again : tie.Need-loop-again Inv-loop μ-loop
-loop-again c = search needs
+returns-2 : tie.Need-returns-2
+returns-2 c = search needs
 
 pub write-frames-spec : {M : Type 1} → statement M
 write-frames-spec =
-    tie.close
-    (tie.spec
-    Inv-loop
-    μ-loop
-    loop-holds
-    sub-rest
-    part-rest-start
-    part-rest-end
-    place-requires
-    front-requires
-    write-frame-requires
-    same-length
-    returns
-    add-i
-    add-i-2
-    loop-less
-    loop-again)
+    tie.close (tie.spec frames-length-requires returns put-fields-requires same-length returns-2)
