@@ -65,7 +65,8 @@ pub fn split_message(msg: &[u8]) -> Split
         places = note(places, n, at + start, len);
         at += start + len;
         n += 1;
-        if !more {
+        let last = !more;
+        if last {
             if at < msg.len() {
                 return Split {
                     framing: Framing::Surplus,

@@ -78,7 +78,15 @@ pub fn check_request<'a>(
         Verdict::Accept => match server_ports::icanhaz::check_icanhaz(msg, split) {
             Verdict::Refuse(r) => Verdict::Refuse(r),
             Verdict::Accept => {
-                check_room(keys, key_lengths, value_lengths, count, msg, split.places, room)
+                check_room(
+                    keys,
+                    key_lengths,
+                    value_lengths,
+                    count,
+                    msg,
+                    split.places,
+                    room,
+                )
             }
         },
     }

@@ -417,7 +417,7 @@ rows-bound identity subtree i (key ∷ keys) (n ∷ lengths) k v =
     value = leb-true n 256 (and-right (leb 0 n) (leb n 256) (and-left (within 0 256 n) (every (within 0 256) lengths) v))
 
     go : (t : Bool) → sum (map (syncLength identity) (keep (under subtree) (rowsOf keys lengths))) ≤ 634 * length lengths
-        → sum (map (syncLength identity) (cond t ((key , n) ∷ keep (under subtree) (rowsOf keys lengths)) (keep (under subtree) (rowsOf keys lengths)))) ≤ 634 * length (n ∷ lengths)
+        → sum (map (syncLength identity) (cond t ((key, n) ∷ keep (under subtree) (rowsOf keys lengths)) (keep (under subtree) (rowsOf keys lengths)))) ≤ 634 * length (n ∷ lengths)
     go true h = omega (arith, h, short-frame identity 255 i (omega arith), short-frame (length key) 96 (k .0) (omega arith), value-frame n value)
     go false h = omega (arith, h)
 

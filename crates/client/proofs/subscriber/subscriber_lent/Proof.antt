@@ -78,14 +78,14 @@ body-requires-2 : tie.Need-body-requires-2
 body-requires-2 c κs = search needs
 
 carry-out-requires : tie.Need-carry-out-requires
-carry-out-requires c κs = 
+carry-out-requires c κs =
     let q = c .before .before .before .before .before .before in
     let s = begin q in
     let f = body-is (now (s .args .msg)) _ (is-split q) in
     storable (state s) (sized q) (call s) (now (s .args .msg)) (effect s) (checks s) (subscriber-refusal (state s) (sized q) (now (s .args .msg)) (s .args .tick .0)) (subscriber-message (state s) (sized q) (now (s .args .msg)) (s .args .tick .0)) (planned q) (c .before .body .ensures ∙ f 0 (omega arith)) (c .body2 .ensures ∙ f 4 (omega arith))
 
 returns : tie.Need-returns
-returns c = 
+returns c =
     let b = c .before in
     let q = b .before .before .before .before .before .before in
     let s = begin q in

@@ -97,24 +97,24 @@ plan-kvsync-requires : tie.Need-plan-kvsync-requires
 plan-kvsync-requires c κs = let g = good (c .before .before .before .before) in (g .rows .count, (g .rows .key-lengths, g .rows .rise))
 
 returns : tie.Need-returns
-returns c = 
+returns c =
     let s = c .before .before .before .before .before .before in
     past-refused (plan s) (state s) (frames s ++ rest s) _ (sym (c .before .r .given .1) ∙ c .before .before .before .check-state .ensures)
 
 returns-2 : tie.Need-returns-2
-returns-2 c = 
+returns-2 c =
     let s = c .before .before .before .before .before .before .before .before .before in
     sym (ap (plan s) (stop-all (frames s) (rest s) _ (sent-not (fields s) (firstOf (frames s)) _ (sym (c .before .r2 .given .1) ∙ c .before .before .before .read-sent .ensures))))
     ∙ sym (ap (plan s) (pass-all (state s) (frames s ++ rest s) (good-state (c .before .before .before .before))))
 
 returns-3 : tie.Need-returns-3
-returns-3 c = 
+returns-3 c =
     let s = c .before .before .before .before .before .before .before .before .before .before in
     let k = sent-end (fields s) (firstOf (frames s)) _ (sym (c .before .before .last .given .1) ∙ c .before .before .before .before .read-sent .ensures) in
     behind (c .before .before .before .before .before) (k .0) (ends (keys s) (s .args .count) (s .args .header) (fields s) (k .1 .0) (k .1 .1) (c .plan-kthxbai .ensures))
 
 returns-4 : tie.Need-returns-4
-returns-4 c = 
+returns-4 c =
     let s = c .before .before .before .before .before .before .before .before .before .before in
     let k = sent-row (fields s) (firstOf (frames s)) (sym (c .before .before .enum-told2 .given .1) ∙ c .before .before .before .before .read-sent .ensures) in
     behind (c .before .before .before .before .before) (k .0) (syncs (keys s) (s .args .count) (s .args .header) (fields s) (k .1) (c .before .body .ensures) (c .plan-kvsync .ensures))

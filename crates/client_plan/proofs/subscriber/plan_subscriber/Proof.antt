@@ -101,24 +101,24 @@ plan-kvpub-requires : tie.Need-plan-kvpub-requires
 plan-kvpub-requires c κs = let g = good (c .before .before .before .before .before .before) in (g .rows .count, (g .rows .key-lengths, g .rows .rise))
 
 returns : tie.Need-returns
-returns c = 
+returns c =
     let s = c .before .before .before .before .before .before in
     past-refused (plan s) (state s) (frames s ++ rest s) _ (sym (c .before .r .given .1) ∙ c .before .before .before .check-state .ensures)
 
 returns-2 : tie.Need-returns-2
-returns-2 c = 
+returns-2 c =
     let s = c .before .before .before .before .before .before .before .before .before in
     sym (ap (plan s) (stop-all (frames s) (rest s) _ (published-not (fields s) (firstOf (frames s)) _ (sym (c .before .r2 .given .1) ∙ c .before .before .before .read-published .ensures))))
     ∙ sym (ap (plan s) (pass-all (state s) (frames s ++ rest s) (good-state (c .before .before .before .before))))
 
 returns-3 : tie.Need-returns-3
-returns-3 c = 
+returns-3 c =
     let s = c .before .before .before .before .before .before .before .before .before in
     let k = published-beat (fields s) (firstOf (frames s)) (sym (c .before .enum-told2 .given .1) ∙ c .before .before .before .read-published .ensures) in
     behind (c .before .before .before .before) (k .0) (hears (keys s) (s .args .count) (s .args .header) (fields s) (now (s .args .subtree)) (s .args .tick .0) (k .1) (c .plan-hugz .ensures))
 
 returns-4 : tie.Need-returns-4
-returns-4 c = 
+returns-4 c =
     let s = c .before .before .before .before .before .before .before .before .before .before .before .before in
     let k = published-update (fields s) (firstOf (frames s)) _ (sym (c .before .before .before .before .next .given .1) ∙ c .before .before .before .before .before .before .read-published .ensures) in
     behind (c .before .before .before .before .before .before .before) (k .0) (updates (keys s) (s .args .count) (s .args .header) (fields s) (now (s .args .subtree)) (s .args .tick .0) (k .1 .0) (k .1 .1) (c .before .before .body .ensures) (c .before .body2 .ensures) (c .plan-kvpub .ensures))

@@ -27,21 +27,21 @@ found s = updateOf (now (s .args .properties))
 whole : (s : tie.Start) → Left (found s) (found s (firstOf (table s))) (table s)
 whole s = record { is = refl }
 
-past-uuid : (c : tie.Else1) → Left (found (c .before .before .before .before .before )) (found (c .before .before .before .before .before ) (firstOf (table (c .before .before .before .before .before )))) (drop 1 (table (c .before .before .before .before .before )))
-past-uuid c = pass (whole (c .before .before .before .before .before )) (asked (c .before .is-uuid .ensures) (c .if1 .left))
+past-uuid : (c : tie.Else1) → Left (found (c .before .before .before .before .before)) (found (c .before .before .before .before .before) (firstOf (table (c .before .before .before .before .before)))) (drop 1 (table (c .before .before .before .before .before)))
+past-uuid c = pass (whole (c .before .before .before .before .before)) (asked (c .before .is-uuid .ensures) (c .if1 .left))
 
 good : (c : tie.After-lifetime) → Good (c .lifetime .given .0 .0) ≡ propertiesOf (now (c .before .before .before .before .before .before .before .before .args .properties))
 good c = sym (c .lifetime .given .1) ∙ c .before .before .read-properties .ensures
 
-past-properties : (c : tie.After-lifetime) → Left (found (c .before .before .before .before .before .before .before .before )) (found (c .before .before .before .before .before .before .before .before ) (firstOf (table (c .before .before .before .before .before .before .before .before )))) (drop 2 (table (c .before .before .before .before .before .before .before .before )))
-past-properties c = pass (past-uuid (c .before .before .before )) (good-pass refl _ (good c))
+past-properties : (c : tie.After-lifetime) → Left (found (c .before .before .before .before .before .before .before .before)) (found (c .before .before .before .before .before .before .before .before) (firstOf (table (c .before .before .before .before .before .before .before .before)))) (drop 2 (table (c .before .before .before .before .before .before .before .before)))
+past-properties c = pass (past-uuid (c .before .before .before)) (good-pass refl _ (good c))
 
 is-uuid-requires : tie.Need-is-uuid-requires
 is-uuid-requires c κs = search needs
 
 returns : tie.Need-returns
 unfolding updateOf
-returns c = stop (whole (c .before .before .before .before .before )) (asked (c .before .is-uuid .ensures) (c .if1 .taken))
+returns c = stop (whole (c .before .before .before .before .before)) (asked (c .before .is-uuid .ensures) (c .if1 .taken))
 
 read-properties-requires : tie.Need-read-properties-requires
 read-properties-requires c κs = search needs
@@ -54,18 +54,18 @@ enum-told c = search needs
 
 returns-2 : tie.Need-returns-2
 unfolding updateOf
-returns-2 c = stop (past-uuid (c .before .before .before )) (good-stop refl (sym (c .enum-told .given .1) ∙ c .before .before .read-properties .ensures))
+returns-2 c = stop (past-uuid (c .before .before .before)) (good-stop refl (sym (c .enum-told .given .1) ∙ c .before .before .read-properties .ensures))
 
 is-value-requires : tie.Need-is-value-requires
 is-value-requires c κs = search needs
 
 returns-3 : tie.Need-returns-3
 unfolding updateOf
-returns-3 c = stop (past-properties (c .before .before .before )) (asked (c .before .is-value .ensures) (c .if2 .taken))
+returns-3 c = stop (past-properties (c .before .before .before)) (asked (c .before .is-value .ensures) (c .if2 .taken))
 
 returns-4 : tie.Need-returns-4
 unfolding updateOf
-returns-4 c = ap Lasting (sym (lifetime-read _ _ (good (c .before .before .before )))) ∙ done (pass (past-properties (c .before .before .before )) (asked (c .before .is-value .ensures) (c .if2 .left)))
+returns-4 c = ap Lasting (sym (lifetime-read _ _ (good (c .before .before .before)))) ∙ done (pass (past-properties (c .before .before .before)) (asked (c .before .is-value .ensures) (c .if2 .left)))
 
 pub read-payload-spec : {M : Type 1} → statement M
 read-payload-spec =

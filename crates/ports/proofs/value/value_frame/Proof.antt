@@ -38,7 +38,7 @@ body-requires c κs = search needs
 
 returns-2 : tie.Need-returns-2
 unfolding valueIn
-returns-2 c = 
+returns-2 c =
     c .body .ensures
     ∙ body-is _ _ (c .before .before .before .before .split-message .ensures) 4 (omega arith)
     ∙ rw (accepted (firstOf (framed 5 (now (c .before .before .before .before .before .before .args .msg)))) (sym (c .before .enum-told .given .1) ∙ judged (c .before .before .before)))

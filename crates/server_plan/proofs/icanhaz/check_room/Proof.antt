@@ -30,7 +30,7 @@ returns c =
 returns-2 : tie.Need-returns-2
 returns-2 c =
     let s = c .before .before .before .before .before in
-    has-room (rowsIn s) (s .args .room) (c .before .before .before .body .ensures) (c .before .before .body2 .ensures) (c .before .snapshot-length .ensures) 
+    has-room (rowsIn s) (s .args .room) (c .before .before .before .body .ensures) (c .before .before .body2 .ensures) (c .before .snapshot-length .ensures)
     (snapshot-short (length (bodyIn (now (s .args .msg)) (s .args .places) 0)) (bodyIn (now (s .args .msg)) (s .args .places) 2) (now (s .args .keys)) (now (s .args .key-lengths)) (now (s .args .value-lengths)) (s .args .count) (s .pre .0) (s .pre .1 .1 .0) (s .pre .1 .1 .1 .0) (s .pre .1 .1 .1 .1)) (c .if1 .left)
 
 pub check-room-spec : {M : Type 1} → statement M
