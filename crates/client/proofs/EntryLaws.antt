@@ -1,13 +1,12 @@
 -- Laws of the two entries that read messages: the checks over the columns come to the refusal of the call, and a message that passes them all is
 -- accepted, with what is known of it. Assumes nothing.
-use Prim.Native.Nat.{ℕ, _≤_, _<_}
-use native.Mathlib.Omega.{arith}
+use Prim.Native.Nat.{ℕ}
 use mathlib.Core.Bool.{Bool, true, false, not, cond, Bool·not-not}
 use mathlib.Core.List.{List, [], _++_}
 use mathlib.Core.Option.{Option, none, some}
 use mathlib.Core.Path.{_≡_, refl, sym, ap, _∙_}
 use lib.Dec.{leb}
-use lib.ListN.{length, take}
+use lib.ListN.{length}
 use borrow.Author.Tests.{leb-true, not-false}
 use Rattle.answers.specs.Answers.{answer}
 use Rattle.answers.specs.declared.answer.Answer.{Answer}

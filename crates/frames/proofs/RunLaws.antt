@@ -9,7 +9,6 @@ use lib.Dec.{leb}
 use lib.ListN.{length, take, drop, length-append, length-take, length-drop, take-append-drop}
 use lib.Seq.{length-take-le, take-append-seam, drop-append-seam, take-append-le, drop-drop, take-add, take-at, drop-at}
 use borrow.Author.Tests.{le-leb}
-use Rattle.base.proofs.CutLaws.{tail-part, tail-length}
 use Rattle.base.specs.Bytes.{Bytes}
 use Rattle.base.specs.Octets.{number}
 use Rattle.frames.proofs.FrameGrammar.{held-known, ended}

@@ -13,7 +13,7 @@ use Rattle.base.specs.Bytes.{Bytes}
 use Rattle.frames.proofs.MessageLaws.{enough, rest-less, frames-step, none-some}
 use Rattle.frames.proofs.RunLaws.{end-step}
 use Rattle.frames.proofs.StepLaws.{Sound, step-sound, step-known}
-use Rattle.frames.specs.Messages.{last, through, framesIn, partsOf, frameAt}
+use Rattle.frames.specs.Messages.{last, through, framesIn, frameAt}
 use Rattle.frames.specs.Runs.{endThrough, endUpTo, endIn, messageIn}
 use Rattle.frames.specs.Steps.{stepOf}
 use Rattle.frames.specs.declared.step.Step.the-variants.{Frame, Broken as BrokenFrame}
@@ -21,7 +21,6 @@ use Rattle.frames.specs.declared.step.Step.{Step}
 use Rattle.frame_reader.specs.Places.{stepAt}
 use Rattle.framing.specs.Splits.{framingBy, framingOf, stopThrough, stopUpTo, stopIn, placedAt, noted, IsSplit}
 use Rattle.framing.specs.declared.Framing.the-variants.{Frames, Broken, Surplus}
-use Rattle.framing.specs.declared.Framing.{Framing}
 use Rattle.framing.specs.declared.Places.{Places}
 use Rattle.framing.specs.declared.Split.{Split}
 

@@ -1,7 +1,7 @@
 -- The messages of the protocol as fields: what their frames hold. One writer, `bytesOf`, and one reader, `fieldsOf`.
 use Prim.Native.Nat.{ℕ, _+_}
 use mathlib.Core.Bool.{true}
-use mathlib.Core.List.{List, [], _∷_, _++_}
+use mathlib.Core.List.{[], _∷_, _++_}
 use Rattle.base.specs.Bytes.{Bytes}
 use Rattle.base.specs.Octets.{octets}
 use Rattle.frames.specs.Messages.{restOf, frameAt, frameLength, frame, encode}

@@ -1,7 +1,7 @@
 -- The rooms are enough. Assumes nothing.
-use Prim.Native.Nat.{ℕ, zero, suc, _+_, _≤_, _<_}
+use Prim.Native.Nat.{ℕ, zero, suc, _+_, _≤_}
 use native.Mathlib.Omega.{arith}
-use mathlib.Core.Bool.{Bool, true, false, cond, not, _&&_, _||_}
+use mathlib.Core.Bool.{Bool, true, false, cond, not, _&&_}
 use mathlib.Core.List.{List, [], _∷_, _++_}
 use mathlib.Core.Option.{Option, none, some, Option·getD}
 use mathlib.Core.Path.{_≡_, refl, sym, ap, _∙_}
@@ -11,7 +11,7 @@ use lib.Seq.{drop-cons}
 use borrow.Author.Tests.{le-leb, leb-true, eqb-true, not-false}
 use Rattle.answers.specs.declared.refusal.Refusal.the-variants.{Framing, BadKey, BadSubtree, BadSequence, BadValue}
 use Rattle.answers.specs.declared.refusal.Refusal.{Refusal}
-use Rattle.base.proofs.ByteLaws.{and-left, and-right, same-eq}
+use Rattle.base.proofs.ByteLaws.{and-right, same-eq}
 use Rattle.base.proofs.CheckLaws.{passed, both-passed}
 use Rattle.base.specs.Bytes.{Bytes, isNil, same}
 use Rattle.base.specs.Checks.Check.{when}
@@ -19,23 +19,21 @@ use Rattle.base.specs.Checks.{Check, firstOf}
 use Rattle.base.specs.Logs.Log.{empty, _▷_}
 use Rattle.base.specs.Logs.{Log}
 use Rattle.base.specs.Octets.{number}
-use Rattle.base.specs.Output.{largest}
 use Rattle.frames.proofs.FrameLaws.{frame-length}
 use Rattle.frames.specs.Messages.{framesIn, frameLength, frame, partsOf, frameAt}
 use Rattle.messages.proofs.LengthLaws.{short-frame, value-frame}
 use Rattle.messages.specs.Fields.{Fields, fields, fieldsOf}
 use Rattle.names.proofs.UnderLaws.{key-short, subtree-short}
 use Rattle.names.specs.Keys.{isKey, isSubtree, under}
-use Rattle.names.specs.Lengths.{isUuid, isIdentity, isValue}
+use Rattle.names.specs.Lengths.{isIdentity}
 use Rattle.names.specs.Numbers.{maxSequence, isSequence}
 use Rattle.names.specs.Words.{wordIcanhaz, wordKthxbai, wordHugz}
 use Rattle.parts.proofs.BuildLaws.{whole-read, broken-read, reads-back}
-use Rattle.parts.specs.Build.{Part, bodies, asFrames, complete, Bounded, holdable, heldIn, Ran, ReadsBack}
+use Rattle.parts.specs.Build.{Part, bodies, asFrames, complete, Bounded, holdable, heldIn, ReadsBack}
 use Rattle.parts.specs.declared.build.Built.{Built}
 use Rattle.ports.specs.Ports.{isNone, framed, payloadChecks, bareChecks, heldChecks, kvsetChecks, kvpubChecks, kvsyncChecks, kthxbaiChecks, hugzChecks, snapshotChecks, publishedChecks, icanhazChecks, kvsetPort, icanhazPort, snapshotPort, subscriberPort}
-use Rattle.properties.proofs.LifetimeLaws.{good-length}
-use Rattle.properties.specs.Properties.{propertiesOf, isGood}
-use Rattle.rooms.specs.Rooms.{takes, Handed, Enough, updateRoom, requestRoom, snapshotRoom, Rooms, AllRooms}
+use Rattle.ports.proofs.SizeLaws.{value-short, payload-short}
+use Rattle.rooms.specs.Rooms.{takes, Handed, Enough, updateRoom, requestRoom, snapshotRoom, AllRooms}
 
 -- ---- how long frames are, one after another
 abbrev total : List Bytes → ℕ
@@ -94,19 +92,9 @@ module _ (port : Bytes → List (Check Refusal)) (most : ℕ) (j : Judged port m
 
 -- ---- the ports
 -- how long a frame is that passed a test
-uuid-short : (s : Bytes) → not (isUuid s) ≡ false → length s ≤ 16
-uuid-short s h = go (eqb (length s) 0) refl (not-false (isUuid s) h)
-  where
-    go : (t : Bool) → eqb (length s) 0 ≡ t → (t || eqb (length s) 16) ≡ true → length s ≤ 16
-    go true e f = omega (arith, eqb-true (length s) 0 e)
-    go false e f = omega (arith, eqb-true (length s) 16 f)
-
 nil-short : (s : Bytes) → not (isNil s) ≡ false → length s ≤ 0
 nil-short [] h = omega arith
 nil-short (x ∷ s) h = absurd (let w : _≡_ {A = ℕ} 0 1 = cc in omega arith)
-
-value-short : (s : Bytes) → not (isValue s) ≡ false → length s ≤ 256
-value-short s h = leb-true (length s) 256 (not-false (isValue s) h)
 
 sequence-short : (s : Bytes) → not (isSequence s) ≡ false → length s ≤ 8
 sequence-short s h = omega (arith, eqb-true (length s) 8 (not-false (isSequence s) h))
@@ -129,14 +117,8 @@ sizes-total f u p i j h =
 
 payload-sizes : (f : Fields) → length (f .head) ≤ 96 → length (f .sequence) ≤ 8 → firstOf (payloadChecks (f .uuid) (f .properties) (f .value)) ≡ none → Sizes f 16 128
 payload-sizes f k s e =
-    let checks = payloadChecks (f .uuid) (f .properties) (f .value) in
-    record {
-      head = k;
-      sequence = s;
-      uuid = uuid-short (f .uuid) (passed 0 checks e);
-      properties = good-length (f .properties) (not-false (isGood (propertiesOf (f .properties))) (passed 1 checks e));
-      value = value-short (f .value) (passed 2 checks e);
-    }
+    let p = payload-short (f .uuid) (f .properties) (f .value) e in
+    record { head = k; sequence = s; uuid = p .0; properties = p .1 .0; value = p .1 .1 }
 
 bare-sizes : (f : Fields) → length (f .head) ≤ 96 → length (f .sequence) ≤ 8 → firstOf (bareChecks (f .uuid) (f .properties)) ≡ none → length (f .value) ≤ 256 → Sizes f 0 0
 bare-sizes f k s e v =

@@ -2,17 +2,17 @@
 -- Assumes nothing.
 use Prim.Native.Nat.{ℕ, _≤_}
 use native.Mathlib.Omega.{arith}
-use mathlib.Core.Bool.{Bool, true, false, not, _||_}
+use mathlib.Core.Bool.{Bool, true, false, not}
 use mathlib.Core.List.{List, [], _∷_, _++_}
 use mathlib.Core.Option.{none}
 use mathlib.Core.Path.{_≡_, refl, sym, ap, _∙_}
-use lib.Dec.{leb, eqb}
+use lib.Dec.{leb}
 use lib.ListN.{length}
-use borrow.Author.Tests.{leb-true, eqb-true, eq-eqb, le-leb, not-false}
+use borrow.Author.Tests.{eq-eqb, le-leb}
 use Rattle.answers.specs.declared.refusal.Refusal.the-variants.{BadKey, BadSequence}
 use Rattle.answers.specs.declared.refusal.Refusal.{Refusal}
 use Rattle.base.proofs.ByteLaws.{same-eq, same-refl}
-use Rattle.base.proofs.CheckLaws.{passed, pass-all}
+use Rattle.base.proofs.CheckLaws.{pass-all}
 use Rattle.base.proofs.OctetLaws.{length-octets, number-octets}
 use Rattle.base.specs.Bytes.{Bytes, isNil, every, same, holds}
 use Rattle.base.specs.Checks.Check.{when}
@@ -23,11 +23,10 @@ use Rattle.messages.proofs.RoundTrip.{Sizable, frames-back, fields-back}
 use Rattle.messages.specs.Fields.{Fields, bytesOf, fieldsOf, kvset, kvpub, kvsync, kthxbai, hugz}
 use Rattle.names.proofs.UnderLaws.{key-short, subtree-short}
 use Rattle.names.specs.Keys.{isKey, isSubtree, under}
-use Rattle.names.specs.Lengths.{isUuid}
 use Rattle.names.specs.Numbers.{maxSequence, isSequence}
 use Rattle.names.specs.Words.{wordKthxbai, wordHugz}
 use Rattle.ports.specs.Ports.{framed, payloadChecks, kvsetChecks, kvsetPort, snapshotChecks, snapshotPort, publishedChecks, subscriberPort}
-use Rattle.properties.proofs.LifetimeLaws.{good-length}
+use Rattle.ports.proofs.SizeLaws.{payload-short}
 use Rattle.round_trip.specs.RoundTrip.{Arrives, Numbered}
 
 -- ---- any message
@@ -69,23 +68,12 @@ module _ (key : Bytes) (k : isKey key ≡ true) where
   not-kthxbai = not-word wordKthxbai refl
 
 -- ---- updates
-uuid-short : (uuid : Bytes) → isUuid uuid ≡ true → length uuid ≤ 16
-uuid-short uuid e = go (eqb (length uuid) 0) (eqb (length uuid) 16) refl refl e
-  where
-    go : (a b : Bool) → eqb (length uuid) 0 ≡ a → eqb (length uuid) 16 ≡ b → (a || b) ≡ true → length uuid ≤ 16
-    go true b f g h = omega (arith, eqb-true (length uuid) 0 f)
-    go false true f g h = omega (arith, eqb-true (length uuid) 16 g)
-    go false false f g h = absurd (let z : _≡_ {A = ℕ} 0 1 = cc in omega arith)
-
 module _ (key uuid properties value : Bytes) (k : isKey key ≡ true) (p : firstOf (payloadChecks uuid properties value) ≡ none) where
   -- its frames are short
   sizable : (n : ℕ) → Sizable (kvpub n key uuid properties value)
   sizable n =
-      let rows = payloadChecks uuid properties value in
       let a = key-short key k in
-      let b = uuid-short uuid (not-false _ (passed 0 rows p)) in
-      let c = good-length properties (not-false _ (passed 1 rows p)) in
-      let d = leb-true (length value) 256 (not-false _ (passed 2 rows p)) in
+      let b = payload-short uuid properties value p in
       (omega arith, (omega (arith, length-octets 8 n), (omega arith, (omega arith, (omega arith, tt)))))
 
   kvset-front : firstOf (when (not (isKey key)) BadKey ∷ when (not (isSequence (octets 8 0))) BadSequence ∷ []) ≡ none

@@ -12,7 +12,7 @@ use Rattle.base.proofs.OutputLaws.{put-nothing, wrote, place, output, kept-leng
 use Rattle.base.specs.Bytes.{Bytes, ascii, isNil, prefix, holds}
 use Rattle.base.specs.Cuts.{before, behind}
 use Rattle.base.specs.Octets.{octets}
-use Rattle.base.specs.Output.{largest, put, Written}
+use Rattle.base.specs.Output.{largest, Written}
 use Rattle.frames.proofs.FrameLaws.{frame-length}
 use Rattle.frames.specs.Messages.{frameLength, frame, encode}
 use Rattle.script.proofs.LineLaws.{fields-more, fields-last}

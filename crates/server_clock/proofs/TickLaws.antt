@@ -43,7 +43,7 @@ use Rattle.server_state.proofs.DueLaws.{due-at, keyed, by-place}
 use Rattle.server_state.proofs.FormLaws.{GoodServer, good-later, good-server, server-good}
 use Rattle.server_state.proofs.StateLaws.{Columns, keys-long, as-long, rows-after, good-after}
 use Rattle.table.proofs.TableLaws.{GoodTable, good-after as table-good}
-use Rattle.server_state.specs.Due.{dueFrom}
+use Rattle.server_state.specs.DuePlaces.{dueFrom}
 use Rattle.server_state.specs.IllFormed.{illForms, illFormsOf, WellFormed}
 use Rattle.server_state.specs.Views.{view, ledgerOf, keysOf, heldOf, SizedServer}
 use Rattle.server_state.specs.declared.Server.{Server}

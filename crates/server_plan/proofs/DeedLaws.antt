@@ -26,7 +26,7 @@ use Rattle.server_plan.specs.declared.tick.Step.the-variants.{Refuse as 
 use Rattle.server_plan.specs.declared.tick.Step.{Step}
 use Rattle.server_state.proofs.DueLaws.{due-at}
 use Rattle.server_state.proofs.FormLaws.{good-columns}
-use Rattle.server_state.specs.Due.{dueFrom}
+use Rattle.server_state.specs.DuePlaces.{dueFrom}
 use Rattle.server_state.specs.IllFormed.{illForms}
 use Rattle.server_state.specs.declared.Header.{Header}
 use Rattle.server_state.specs.declared.due.Due.the-variants.{At, Nothing}

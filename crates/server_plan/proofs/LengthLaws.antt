@@ -1,7 +1,6 @@
 -- How long the messages are that a server writes. Each law follows from the one on a message's length, `bytes-length`. Assumes nothing.
 use Prim.Native.Nat.{ℕ, _≤_}
 use native.Mathlib.Omega.{arith}
-use mathlib.Core.Bool.{true}
 use mathlib.Core.List.{[]}
 use mathlib.Core.Option.{none}
 use mathlib.Core.Path.{_≡_, ap}

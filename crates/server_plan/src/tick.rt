@@ -19,7 +19,7 @@ ghost use lib.ListN.{take};
 ghost use Rattle.base.specs.Checks.{firstOf};
 ghost use Rattle.names.specs.Numbers.{maxSequence};
 ghost use Rattle.ports.specs.Ports.{tickChecks};
-ghost use Rattle.server_state.specs.Due.{dueFrom};
+ghost use Rattle.server_state.specs.DuePlaces.{dueFrom};
 ghost use Rattle.server_state.specs.IllFormed.{illForms};
 ghost use Rattle.table.specs.Columns.{texts, lengthsFit};
 ghost use Rattle.server_plan.specs.Plans.{stepOf, deedAt};

@@ -20,7 +20,8 @@ use Rattle.names.specs.declared.order.Order.the-variants.{Less, Equal, Greater}
 use Rattle.names.specs.declared.order.Order.{Order}
 use Rattle.rows.specs.Rows.{Rows, removeRow, keysIn, Above, Sorted, mapRows}
 use Rattle.server_state.proofs.StateLaws.{length-stamps}
-use Rattle.server_state.specs.Due.{sooner, leastDue, before, earlier, dueFrom}
+use Rattle.server_state.specs.Due.{sooner, leastDue}
+use Rattle.server_state.specs.DuePlaces.{before, earlier, dueFrom}
 use Rattle.server_state.specs.Views.{Held, Entry, never, expiryIn, stamp, entry, entriesOf, plain}
 use Rattle.server_state.specs.declared.due.Due.the-variants.{At, Nothing}
 use Rattle.server_state.specs.declared.due.Due.{Due}

@@ -1,5 +1,5 @@
 -- Laws of snapshots: what one row more adds, how long they are by the lengths of what they hold, and the most that they take. Assumes nothing.
-use Prim.Native.Nat.{ℕ, zero, suc, _+_, _*_, _≤_, _<_, min}
+use Prim.Native.Nat.{ℕ, _+_, _*_, _≤_, _<_, min}
 use native.Mathlib.Nat.{add-assoc}
 use native.Mathlib.Omega.{arith}
 use mathlib.Core.Bool.{Bool, true, false, cond}
@@ -14,7 +14,7 @@ use Rattle.base.proofs.OctetLaws.{length-octets}
 use Rattle.base.proofs.OutputLaws.{clamped-sum, wrote, both, room}
 use Rattle.base.specs.Bytes.{Bytes, every}
 use Rattle.base.specs.Output.{put, Written, largest}
-use Rattle.cells.specs.Cells.{cells, cellAt, All}
+use Rattle.cells.specs.Cells.{cellAt, All}
 use Rattle.frames.proofs.FrameLaws.{frame-length}
 use Rattle.frames.specs.Runs.{joined}
 use Rattle.frames.specs.Messages.{frameLength}

@@ -1,5 +1,5 @@
 -- Rows that are due: their expiry is below the tick. Of those the one with the least expiry goes, the one with the least key among equals.
-use Prim.Native.Nat.{ℕ, suc}
+use Prim.Native.Nat.{ℕ}
 use mathlib.Core.Bool.{cond, _&&_}
 use mathlib.Core.List.{List, [], _∷_}
 use mathlib.Core.Option.{Option, none, some}
@@ -7,8 +7,6 @@ use lib.Dec.{leb, ltb}
 use Rattle.base.specs.Bytes.{Bytes}
 use Rattle.rows.specs.Rows.{Rows}
 use Rattle.server_state.specs.Views.{Held}
-use Rattle.server_state.specs.declared.due.Due.the-variants.{At, Nothing}
-use Rattle.server_state.specs.declared.due.Due.{Due}
 
 -- a row and, of the rows behind it, the one to go: the row goes before it if it is due and expires no later, its key being less
 abbrev pub sooner : ℕ → Bytes → Option ℕ → Option (Bytes × ℕ) → Option (Bytes × ℕ)
@@ -20,15 +18,3 @@ sooner t k (some e) (some b) = cond (ltb e t && leb e (b .1)) (some (k, e)) (som
 unfoldable pub leastDue : ℕ → Rows Held → Option (Bytes × ℕ)
 leastDue t [] = none
 leastDue t (r ∷ l) = sooner t (r .0) (r .1 .expiry) (leastDue t l)
-
--- ---- the same by places, over the column of expiries
-abbrev pub before : ℕ → ℕ → Due → Due
-before at e Nothing = At at e
-before at e (At i f) = cond (ltb f e) (At i f) (At at e)
-
-abbrev pub earlier : ℕ → ℕ → ℕ → Due → Due
-earlier t at e rest = cond (leb t e) rest (before at e rest)
-
-unfoldable pub dueFrom : ℕ → ℕ → List ℕ → Due
-dueFrom i t [] = Nothing
-dueFrom i t (e ∷ es) = earlier t i e (dueFrom (suc i) t es)

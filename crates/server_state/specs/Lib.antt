@@ -1,4 +1,5 @@
 pub mod Due
+pub mod DuePlaces
 pub mod IllFormed
 pub mod Snapshots
 pub mod Views

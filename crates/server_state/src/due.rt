@@ -3,7 +3,7 @@ use names::numbers::Tick;
 ghost use mathlib.Core.Path.{_≡_};
 ghost use Prim.Native.Nat.{_≤_};
 ghost use lib.ListN.{take};
-ghost use Rattle.server_state.specs.Due.{earlier, dueFrom};
+ghost use Rattle.server_state.specs.DuePlaces.{earlier, dueFrom};
 
 // A row that is due, with its expiry.
 pub enum Due {

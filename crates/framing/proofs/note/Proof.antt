@@ -1,5 +1,4 @@
 -- `framing::note` meets its contract: it changes one place of each array, or nothing. Assumes nothing.
-use mathlib.Core.Path.{refl, sym}
 use borrow.Author.Needs.{needs}
 use borrow.Author.Tests.{le-leb, lt-leb}
 use Rattle.framing.proofs.note.Statement.{statement}

@@ -1,9 +1,7 @@
 -- `server::kvset::expiry_at` meets its contract: a lifetime is added to the tick, and without one the row does not expire. Assumes nothing.
 use native.Mathlib.Omega.{arith}
-use mathlib.Core.Path.{refl, sym, ap}
+use mathlib.Core.Path.{refl}
 use borrow.Author.Needs.{needs}
-use Rattle.properties.specs.declared.read.Properties.the-variants.{Good}
-use Rattle.server_plan.specs.Next.{expiryAt}
 use Rattle.server.proofs.ExpiryLaws.{in-range, expires-then}
 use Rattle.server.proofs.kvset.expiry_at.Statement.{statement}
 use Rattle.server.proofs.kvset.expiry_at.Tie as tie

@@ -8,7 +8,7 @@ use mathlib.Core.Path.{_≡_, refl, sym, ap, _∙_}
 use lib.ListN.{length, take}
 use denote.Ref.{now}
 use borrow.Author.Needs.{needs}
-use Rattle.base.specs.Bytes.{Bytes, isNil}
+use Rattle.base.specs.Bytes.{isNil}
 use Rattle.base.specs.Checks.{Check, firstOf}
 use Rattle.answers.specs.Answers.{answer}
 use Rattle.answers.specs.declared.answer.Kind.the-variants.{Wrote}

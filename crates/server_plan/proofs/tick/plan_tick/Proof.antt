@@ -12,7 +12,7 @@ use Rattle.answers.specs.declared.refusal.Refusal.{Refusal}
 use Rattle.answers.specs.declared.refusal.Verdict.the-variants.{Accept}
 use Rattle.base.specs.Checks.{Check, firstOf}
 use Rattle.server_plan.specs.declared.tick.Step.{Step}
-use Rattle.server_state.specs.Due.{dueFrom}
+use Rattle.server_state.specs.DuePlaces.{dueFrom}
 use Rattle.server_state.specs.IllFormed.{illForms}
 use Rattle.server_state.specs.declared.due.Due.{Due}
 use Rattle.table.specs.Columns.{texts}

@@ -6,7 +6,7 @@ use mathlib.Core.Path.{_≡_, ap, _∙_}
 use borrow.Author.Needs.{needs}
 use lib.ListN.{length, getD, take, drop}
 use Rattle.server_state.proofs.DueLaws.{due-end, due-step}
-use Rattle.server_state.specs.Due.{earlier, dueFrom}
+use Rattle.server_state.specs.DuePlaces.{earlier, dueFrom}
 use Rattle.server_state.proofs.due.due_row.Statement.{statement}
 use Rattle.server_state.proofs.due.due_row.Tie as tie
 
