@@ -15,7 +15,8 @@ pub struct Part {
     pub length: u64,
 }
 
-// The value frame of a message of five frames, as a part of the message; a part of no bytes where the message is refused.
+// The value frame of a message of five frames, as a part of the message; a part of no bytes where the message is
+// refused.
 #[no_mangle]
 pub extern "C" fn chp_bytes_value(msg: &[u8]) -> Part
     ensures { λ r. ⌜ IsValue (now (msg .entry)) r ⌝ }

@@ -1,5 +1,5 @@
--- Laws of the two entries that read messages: the checks over the columns come to the refusal of the call, and a message that passes them all is
--- accepted, with what is known of it. Assumes nothing.
+-- Laws of the two entries that read messages: the checks over the columns come to the refusal of the call, and a
+-- message that passes them all is accepted, with what is known of it. Assumes nothing.
 use Prim.Native.Nat.{ℕ}
 use mathlib.Core.Bool.{Bool, true, false, not, cond, Bool·not-not}
 use mathlib.Core.List.{List, [], _++_}
@@ -303,7 +303,8 @@ module _ (c : Client) (x : Call) (msg : Bytes) (e : Effect) (m : Message c x msg
       (stored-view c z change h k key value c′ (d .altered) s header-is (r .key) (r .key-length) (r .value) (r .value-length) e (m .taken) w p)
       (stored-good c z change h k key value c′ (d .altered) s header-is (r .key) (r .key-length) (r .value) (r .value-length) e (m .taken) w p long)
 
--- ---- a call whose checks come to its refusal, whose message is known where it passes them, and the plan that is made of it
+-- ---- a call whose checks come to its refusal, whose message is known where it passes them, and the plan that is made
+-- of it
 module _ (c : Client) (z : SizedTable (c .table)) (x : Call) (msg : Bytes) (e : Effect) (checks : List (Check Refusal)) (refusal : firstOf checks ≡ refusalOf c x)
     (message : firstOf checks ≡ none → Message c x msg e) {plan : Plan} (is : plan ≡ planOf (firstOf checks) (planBy (c .header) (tableKeys (c .table)) e))
     {key value : Bytes} (key-is : key ≡ frameAt 0 msg) (value-is : value ≡ frameAt 4 msg) where

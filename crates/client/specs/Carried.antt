@@ -1,4 +1,5 @@
--- What a message was found to come to, carried out: of a client's header, of its columns before and after, and of the key and the value at hand.
+-- What a message was found to come to, carried out: of a client's header, of its columns before and after, and of the
+-- key and the value at hand.
 use Prim.Native.Nat.{ℕ, _≤_}
 use mathlib.Core.Path.{_≡_}
 use lib.ListN.{length}

@@ -14,7 +14,8 @@ ghost use Rattle.client_plan.specs.Calls.{snapshot as handed};
 ghost use Rattle.client_plan.specs.Lent.{lent};
 ghost use Rattle.client_plan.specs.Promises.{Answered};
 
-// The snapshot entry on a state whose columns are lent: a message of five frames, the identity in front of it taken off.
+// The snapshot entry on a state whose columns are lent: a message of five frames, the identity in front of it taken
+// off.
 pub fn snapshot_lent<'a>(
     keys: &mut [u8; 6400],
     values: &mut [u8; 16384],

@@ -1,6 +1,6 @@
--- What a function tells of a place of a message, in two forms: of the message and the place, and of a reader, which holds both.
--- What is told is a result of any type; `frame-told` is the one that there is. A function of one form calls one of the other (`Apart`, `Made`).
--- Assumes nothing.
+-- What a function tells of a place of a message, in two forms: of the message and the place, and of a reader, which
+-- holds both. What is told is a result of any type; `frame-told` is the one that there is. A function of one form calls
+-- one of the other (`Apart`, `Made`). Assumes nothing.
 use Prim.Native.Nat.{ℕ}
 use mathlib.Core.List.{[], _∷_}
 use mathlib.Core.Path.{_≡_}

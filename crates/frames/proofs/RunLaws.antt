@@ -1,4 +1,5 @@
--- Laws of messages one behind another: where each ends, and that whole messages are cut apart where they were joined. Assumes nothing.
+-- Laws of messages one behind another: where each ends, and that whole messages are cut apart where they were joined.
+-- Assumes nothing.
 use Prim.Native.Nat.{ℕ, zero, suc, _+_, _-_, _≤_, _<_}
 use native.Mathlib.Omega.{arith}
 use mathlib.Core.Bool.{Bool, true, false, cond}
@@ -21,7 +22,8 @@ use Rattle.frames.specs.Steps.{held, shortOf, longOf, flagged, stepOf}
 use Rattle.frames.specs.declared.step.Step.the-variants.{Frame, Broken}
 use Rattle.frames.specs.declared.step.Step.{Step}
 
--- ---- the end of the first message is that of its first frame, or of what is behind it; the bound on the number of frames does not matter
+-- ---- the end of the first message is that of its first frame, or of what is behind it; the bound on the number of
+-- frames does not matter
 end-nil : (k : ℕ) → endUpTo k [] ≡ none
 unfolding endUpTo stepOf
 end-nil zero = refl
@@ -40,7 +42,8 @@ pub end-step : (s : Bytes) → endIn s ≡ endThrough endIn s (stepOf s)
 unfolding endIn endUpTo
 end-step s = enough none (λ (f : Bytes → Option ℕ) (t : Bytes). endThrough f t (stepOf t)) endUpTo end-nil (λ k t. refl) end-same s
 
--- ---- the bytes of a frame are read as that frame, whatever stands behind them: f is the frame, r and q are what stands there
+-- ---- the bytes of a frame are read as that frame, whatever stands behind them: f is the frame, r and q are what
+-- stands there
 held-again : (head size left other : ℕ) (more : Bool) (start len : ℕ) (m : Bool) → len ≤ other → held head size left more ≡ Frame start len m
     → held head size other more ≡ Frame start len m
 held-again head size left other more start len m l e =

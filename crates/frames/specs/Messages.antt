@@ -1,4 +1,5 @@
--- A message as the list of its frames' bodies. Each frame but the last promises another, and nothing stands behind the last.
+-- A message as the list of its frames' bodies. Each frame but the last promises another, and nothing stands behind the
+-- last.
 use Prim.Native.Nat.{ℕ, zero, suc, _+_}
 use mathlib.Core.Bool.{Bool, true, false, cond}
 use mathlib.Core.List.{List, [], _∷_, _++_}

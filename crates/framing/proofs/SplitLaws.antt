@@ -1,4 +1,5 @@
--- Laws of the walk over a message's frames: what is known of the message behind each frame, and at the end. Assumes nothing.
+-- Laws of the walk over a message's frames: what is known of the message behind each frame, and at the end. Assumes
+-- nothing.
 use Prim.Native.Nat.{ℕ, zero, suc, _+_, _≤_, _<_}
 use native.Mathlib.Omega.{arith}
 use mathlib.Core.Bool.{Bool, true, false, cond}
@@ -24,7 +25,8 @@ use Rattle.framing.specs.declared.Framing.the-variants.{Frames, Broken, 
 use Rattle.framing.specs.declared.Places.{Places}
 use Rattle.framing.specs.declared.Split.{Split}
 
--- ---- where the walk stops: behind the first frame, or where it stops behind that; the bound on the number of frames does not matter
+-- ---- where the walk stops: behind the first frame, or where it stops behind that; the bound on the number of frames
+-- does not matter
 stop-nil : (k : ℕ) → stopUpTo k [] ≡ 0
 unfolding stopUpTo stepOf
 stop-nil zero = refl

@@ -1,5 +1,5 @@
--- A message that is split into its frames: how its framing is, where the walk over its frames stops, and where the bodies of
--- the first five lie.
+-- A message that is split into its frames: how its framing is, where the walk over its frames stops, and where the
+-- bodies of the first five lie.
 use Prim.Native.Nat.{ℕ, zero, suc, _+_, _<_}
 use mathlib.Core.Bool.{true, false, cond}
 use mathlib.Core.List.{List, []}
@@ -56,7 +56,8 @@ bodyIn s p k = cond (ltb k 5) (placedAt s p k) []
 abbrev pub noted : Places → ℕ → ℕ → ℕ → Places
 noted p k start len = cond (leb 5 k) p (record { starts = set (p .starts) k start; lens = set (p .lens) k len })
 
--- r is what s splits into: each of the first five bodies is found at its place, and is empty where there is no such frame
+-- r is what s splits into: each of the first five bodies is found at its place, and is empty where there is no such
+-- frame
 pub record IsSplit (s : Bytes) (r : Split) : Type 0 where
   pub framing : r .framing ≡ framingOf s
   pub stop : r .stop ≡ stopIn s

@@ -15,6 +15,9 @@ pub enum Framing {
     Surplus,
 }
 
+// Of so many frames the places are kept.
+pub const KEPT: usize = 5;
+
 // Where the bodies of the first five frames start, and how long they are; 0 and 0 for a frame that is not there.
 pub struct Places {
     pub starts: [usize; 5],
@@ -33,7 +36,7 @@ pub struct Split {
 fn note(places: Places, k: usize, start: usize, len: usize) -> Places
     ensures { λ r. ⌜ r ≡ noted places k start len ⌝ }
 {
-    if 5 <= k {
+    if KEPT <= k {
         return places;
     }
     let mut starts = places.starts;
@@ -87,7 +90,7 @@ pub fn split_message(msg: &[u8]) -> Split
 pub fn body(msg: &[u8], places: Places, k: usize) -> &[u8]
     ensures { λ r. ⌜ now r ≡ bodyIn (now (msg .entry)) places k ⌝ }
 {
-    if 5 <= k {
+    if KEPT <= k {
         return &msg[..0];
     }
     let starts = places.starts;

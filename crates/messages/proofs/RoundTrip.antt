@@ -1,4 +1,5 @@
--- What one end writes, the other reads back into the same fields, with the identity frame put on and taken off. Assumes nothing.
+-- What one end writes, the other reads back into the same fields, with the identity frame put on and taken off. Assumes
+-- nothing.
 use Prim.Native.Nat.{_<_}
 use native.Mathlib.Omega.{arith}
 use mathlib.Core.Bool.{true}

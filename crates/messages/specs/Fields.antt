@@ -56,7 +56,8 @@ hugz = fields wordHugz (octets 8 0) [] [] []
 abbrev pub icanhaz : Bytes → Bytes
 icanhaz subtree = encode wordIcanhaz (subtree ∷ [])
 
--- the identity frame, which stands in front of a request and of each message of its answer on their way through the router
+-- the identity frame, which stands in front of a request and of each message of its answer on their way through the
+-- router
 abbrev pub identityFrame : Bytes → Bytes
 identityFrame identity = frame true identity
 

@@ -22,8 +22,8 @@ fn begins_message(s: &[u8], at: usize) -> bool
     0 < framing::first_message(bytes::behind(s, at)).len()
 }
 
-// The frame at a place of some bytes. Inside a message the frames before it promised one. Between two messages a frame is
-// given only if its whole message is there.
+// The frame at a place of some bytes. Inside a message the frames before it promised one. Between two messages a frame
+// is given only if its whole message is there.
 pub fn next_frame(s: &[u8], at: usize, inside: bool) -> Taken
     ensures { λ r. ⌜ r ≡ takenAt (now (s .entry)) at inside ⌝ }
 {

@@ -1,4 +1,5 @@
--- What each port refuses by the frames of a message alone, and a call by its tick: tables of checks, in the order of the refusals.
+-- What each port refuses by the frames of a message alone, and a call by its tick: tables of checks, in the order of
+-- the refusals.
 use Prim.Native.Nat.{ℕ}
 use mathlib.Core.Bool.{Bool, true, false, cond, not}
 use mathlib.Core.List.{List, [], _∷_, _++_}

@@ -1,5 +1,5 @@
--- Properties are lines: each a name, an equals sign and a value, and ended by a newline. They take 128 bytes at most. One of them may be named
--- ttl, and says how many seconds a row lives, in up to five digits.
+-- Properties are lines: each a name, an equals sign and a value, and ended by a newline. They take 128 bytes at most.
+-- One of them may be named ttl, and says how many seconds a row lives, in up to five digits.
 use Prim.Native.Nat.{ℕ}
 use mathlib.Core.Bool.{Bool, true, false, cond, not, _&&_}
 use mathlib.Core.List.{List, [], _∷_}

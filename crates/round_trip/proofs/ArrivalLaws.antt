@@ -1,5 +1,5 @@
--- A message of five frames that are short enough passes the framing of a port and gives its fields back. What else a port asks is asked of the fields.
--- Assumes nothing.
+-- A message of five frames that are short enough passes the framing of a port and gives its fields back. What else a
+-- port asks is asked of the fields. Assumes nothing.
 use Prim.Native.Nat.{ℕ, _≤_}
 use native.Mathlib.Omega.{arith}
 use mathlib.Core.Bool.{Bool, true, false, not}

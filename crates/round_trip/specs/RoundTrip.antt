@@ -1,5 +1,6 @@
--- Every message that one end writes, the other's port lets pass and takes apart into the same fields, once the router has put the identity frame on or taken it
--- off. Of any state of a server or a client, whatever the call: it need only be accepted.
+-- Every message that one end writes, the other's port lets pass and takes apart into the same fields, once the router
+-- has put the identity frame on or taken it off. Of any state of a server or a client, whatever the call: it need only
+-- be accepted.
 use Prim.Native.Nat.{ℕ, suc}
 use mathlib.Core.Bool.{true}
 use mathlib.Core.List.{List, [], _∷_, _++_, map}
@@ -56,7 +57,8 @@ TickArrives msg n quiet = msg ≡ []
 abbrev pub SyncArrives : Bytes → Bytes → Bytes × Entry → Type 0
 SyncArrives identity subtree r = Arrives (snapshotPort subtree) (withoutIdentity (sync identity r)) (kvsync (r .1 .number) (r .0) (r .1 .value))
 
--- the answer to a request for a subtree: cut into messages it is the rows under the subtree and the end, and each of them arrives without its identity
+-- the answer to a request for a subtree: cut into messages it is the rows under the subtree and the end, and each of
+-- them arrives without its identity
 pub record SnapshotArrives (bytes identity subtree : Bytes) (n : ℕ) (rows : Rows Entry) : Type 0 where
   pub messages : messagesIn bytes ≡ map (sync identity) (keep (under subtree) rows) ++ (thanks identity n subtree ∷ [])
   pub rows-arrive : All (SyncArrives identity subtree) (keep (under subtree) rows)

@@ -1,4 +1,5 @@
--- Laws of expiries: a lifetime of at most 86,400 seconds behind a tick in range is an expiry, and is not the mark of none. Assumes nothing.
+-- Laws of expiries: a lifetime of at most 86,400 seconds behind a tick in range is an expiry, and is not the mark of
+-- none. Assumes nothing.
 use Prim.Native.Nat.{ℕ, _+_, _*_, _≤_}
 use native.Mathlib.Omega.{arith}
 use mathlib.Core.Bool.{true}

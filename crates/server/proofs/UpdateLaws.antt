@@ -1,5 +1,5 @@
--- What an accepted KVSET makes of a server: the update in every column is the update of the ledger, and the state stays well-formed.
--- Assumes nothing.
+-- What an accepted KVSET makes of a server: the update in every column is the update of the ledger, and the state stays
+-- well-formed. Assumes nothing.
 use Prim.Native.Nat.{ℕ, suc, _+_, _≤_, _<_}
 use native.Mathlib.Nat.{zero-add}
 use native.Mathlib.Omega.{arith}

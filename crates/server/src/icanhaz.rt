@@ -14,7 +14,8 @@ ghost use Rattle.server_plan.specs.Calls.{icanhaz as requested};
 ghost use Rattle.server_plan.specs.Lent.{lent, unchanged};
 ghost use Rattle.server_plan.specs.Promises.{Answered};
 
-// ICANHAZ at a state whose columns are lent: a message of three frames, an identity, the word and a subtree, whose snapshot is written to the output.
+// ICANHAZ at a state whose columns are lent: a message of three frames, an identity, the word and a subtree, whose
+// snapshot is written to the output.
 pub fn icanhaz_lent<'a>(
     keys: &'a [u8; 6400],
     values: &'a [u8; 16384],

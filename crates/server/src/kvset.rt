@@ -42,7 +42,8 @@ fn expiry_at(tick: Tick, lifetime: Lifetime) -> u64
     }
 }
 
-// KVSET on a state whose columns are lent: a message of five frames, whose update is made at a tick and published in the output.
+// KVSET on a state whose columns are lent: a message of five frames, whose update is made at a tick and published in
+// the output.
 pub fn kvset_lent(
     keys: &mut [u8; 6400],
     values: &mut [u8; 16384],

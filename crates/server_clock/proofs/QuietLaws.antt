@@ -1,5 +1,5 @@
--- A Tick repeated at the same tick has nothing left to do by the 65th call: each call before takes out a row that is due, of which there
--- are at most 64, or, where none is at first, gives the one sign of life. Assumes nothing.
+-- A Tick repeated at the same tick has nothing left to do by the 65th call: each call before takes out a row that is
+-- due, of which there are at most 64, or, where none is at first, gives the one sign of life. Assumes nothing.
 use Prim.Native.Nat.{ℕ, zero, suc, _-_, _≤_, _<_}
 use native.Mathlib.Omega.{arith}
 use mathlib.Core.Bool.{Bool, true, false}

@@ -1,4 +1,5 @@
--- How long the messages are that a server writes. Each law follows from the one on a message's length, `bytes-length`. Assumes nothing.
+-- How long the messages are that a server writes. Each law follows from the one on a message's length, `bytes-length`.
+-- Assumes nothing.
 use Prim.Native.Nat.{ℕ, _≤_}
 use native.Mathlib.Omega.{arith}
 use mathlib.Core.List.{[]}

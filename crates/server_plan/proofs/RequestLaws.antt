@@ -1,18 +1,14 @@
--- Laws of the checks of an ICANHAZ, one behind the other, and of the room for the snapshot. Assumes nothing.
+-- Laws of the room that the snapshot of an ICANHAZ needs. Assumes nothing.
 use Prim.Native.Nat.{ℕ, _≤_, _<_, min}
 use native.Mathlib.Omega.{arith}
-use mathlib.Core.List.{List, _++_}
-use mathlib.Core.Path.{_≡_, sym, ap, _∙_}
+use mathlib.Core.Path.{_≡_, _∙_}
 use lib.ListN.{length}
 use borrow.Author.Tests.{lt-ltb, le-ltb}
-use Rattle.answers.proofs.VerdictLaws.{past-accepted, past-refused}
 use Rattle.answers.specs.Refusals.{verdict}
 use Rattle.answers.specs.declared.refusal.Refusal.the-variants.{ShortOutput}
-use Rattle.answers.specs.declared.refusal.Refusal.{Refusal}
 use Rattle.answers.specs.declared.refusal.Verdict.the-variants.{Accept, Refuse}
-use Rattle.answers.specs.declared.refusal.Verdict.{Verdict}
 use Rattle.base.specs.Bytes.{Bytes}
-use Rattle.base.specs.Checks.{Check, firstOf}
+use Rattle.base.specs.Checks.{firstOf}
 use Rattle.base.specs.Output.{largest}
 use Rattle.rows.specs.Rows.{Rows}
 use Rattle.server_plan.specs.Refusals.{snapshotChecks}
@@ -31,11 +27,3 @@ module _ (rows : Rows ℕ) (room : ℕ) {identity subtree first third : Bytes} (
   pub has-room : snapshotLength (length first) third rows ≤ 40954 → need ≤ room → Accept ≡ verdict (firstOf (snapshotChecks rows first third room))
   unfolding firstOf
   has-room k h = rw (le-ltb room (snapshotLength (length first) third rows) (omega (arith, needed, k)))
-
--- ---- the checks, one table behind the other: of the state, of the port, and of the room
-module _ (state port last : List (Check Refusal)) (well : Accept ≡ verdict (firstOf state)) where
-  pub port-refused : (r : Refusal) → Refuse r ≡ verdict (firstOf port) → Refuse r ≡ verdict (firstOf (state ++ (port ++ last)))
-  port-refused r e = past-refused verdict port last r e ∙ sym (ap verdict (past-accepted state (port ++ last) well))
-
-  pub by-room : Accept ≡ verdict (firstOf port) → {r : Verdict} → r ≡ verdict (firstOf last) → r ≡ verdict (firstOf (state ++ (port ++ last)))
-  by-room e f = f ∙ sym (ap verdict (past-accepted state (port ++ last) well ∙ past-accepted port last e))

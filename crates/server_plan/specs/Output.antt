@@ -17,7 +17,8 @@ tickBytes n (expire key) = expiry (suc n) key
 tickBytes n beat = bytesOf hugz
 tickBytes n quiet = []
 
--- a call that is accepted: the KVPUB with the new number and the four other frames as received; what a Tick does; the snapshot
+-- a call that is accepted: the KVPUB with the new number and the four other frames as received; what a Tick does; the
+-- snapshot
 unfoldable pub acceptedBytes : Ledger Entry → Call → Bytes
 acceptedBytes v (kvset msg t room) = update (suc (v .number)) (fieldsOf msg)
 acceptedBytes v (tick t room) = tickBytes (v .number) (deed (ledgerOf v) t)

@@ -1,5 +1,5 @@
--- What a server refuses, read over its ledger: a table of checks for each call, in the order of the refusals. That the state handed in
--- is ill-formed stands before all of them.
+-- What a server refuses, read over its ledger: a table of checks for each call, in the order of the refusals. That the
+-- state handed in is ill-formed stands before all of them.
 use Prim.Native.Nat.{ℕ, suc}
 use mathlib.Core.Bool.{Bool, not, _&&_}
 use mathlib.Core.List.{List, [], _∷_, _++_}

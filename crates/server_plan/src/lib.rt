@@ -1,5 +1,6 @@
-// What a call on a server comes to: what it refuses, what an accepted one is to do, writes and answers. Functions that only read decide it; who acts
-// on it are the crates server and server_clock. They are lent the columns of a state, never the state.
+// What a call on a server comes to: what it refuses, what an accepted one is to do, writes and answers. Functions that
+// only read decide it; who acts on it are the crates server and server_clock. They are lent the columns of a state,
+// never the state.
 use answers::answer::Answer;
 use server_state::Header;
 use server_state::Server;

@@ -213,7 +213,8 @@ notGreater Less = true
 notGreater Equal = true
 notGreater Greater = false
 
--- k is held with the expiry e, which is below t; no row has an earlier one, and of sorted rows none before k has the same
+-- k is held with the expiry e, which is below t; no row has an earlier one, and of sorted rows none before k has the
+-- same
 pub record LeastDue (t : ℕ) (rows : Rows Held) (k : Bytes) (e : ℕ) : Type 0 where
   pub held : Held
   pub among : Among (k, held) rows

@@ -1,4 +1,5 @@
--- Laws of snapshots: what one row more adds, how long they are by the lengths of what they hold, and the most that they take. Assumes nothing.
+-- Laws of snapshots: what one row more adds, how long they are by the lengths of what they hold, and the most that they
+-- take. Assumes nothing.
 use Prim.Native.Nat.{ℕ, _+_, _*_, _≤_, _<_, min}
 use native.Mathlib.Nat.{add-assoc}
 use native.Mathlib.Omega.{arith}

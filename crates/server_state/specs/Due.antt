@@ -1,14 +1,16 @@
--- Rows that are due: their expiry is below the tick. Of those the one with the least expiry goes, the one with the least key among equals.
+-- Rows that are due: their expiry is below the tick. Of those the one with the least expiry goes, the one with the
+-- least key among equals.
 use Prim.Native.Nat.{ℕ}
 use mathlib.Core.Bool.{cond, _&&_}
-use mathlib.Core.List.{List, [], _∷_}
+use mathlib.Core.List.{[], _∷_}
 use mathlib.Core.Option.{Option, none, some}
 use lib.Dec.{leb, ltb}
 use Rattle.base.specs.Bytes.{Bytes}
 use Rattle.rows.specs.Rows.{Rows}
 use Rattle.server_state.specs.Views.{Held}
 
--- a row and, of the rows behind it, the one to go: the row goes before it if it is due and expires no later, its key being less
+-- a row and, of the rows behind it, the one to go: the row goes before it if it is due and expires no later, its key
+-- being less
 abbrev pub sooner : ℕ → Bytes → Option ℕ → Option (Bytes × ℕ) → Option (Bytes × ℕ)
 sooner t k none best = best
 sooner t k (some e) none = cond (ltb e t) (some (k, e)) none

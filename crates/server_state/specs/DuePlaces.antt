@@ -1,4 +1,5 @@
--- The row that is due first, by its place in the column of expiries: what the search for it finds. `by-place` ties it to `leastDue` of Due.
+-- The row that is due first, by its place in the column of expiries: what the search for it finds. `by-place` ties it
+-- to `leastDue` of Due.
 use Prim.Native.Nat.{ℕ, suc}
 use mathlib.Core.Bool.{cond}
 use mathlib.Core.List.{List, [], _∷_}

@@ -11,7 +11,8 @@ pub enum Due {
     Nothing,
 }
 
-// A row with an expiry, before others of which one may be due: it goes first if it is due and none of them expires earlier.
+// A row with an expiry, before others of which one may be due: it goes first if it is due and none of them expires
+// earlier.
 fn earlier_of(at: usize, expiry: u64, tick: Tick, rest: Due) -> Due
     ensures { λ r. ⌜ r ≡ earlier (tick .0) at expiry rest ⌝ }
 {
@@ -30,7 +31,8 @@ fn earlier_of(at: usize, expiry: u64, tick: Tick, rest: Due) -> Due
     }
 }
 
-// The row that is due first, of those with the first count expiries. No tick is above the expiry of a row that does not expire.
+// The row that is due first, of those with the first count expiries. No tick is above the expiry of a row that does not
+// expire.
 pub fn due_row(expiries: &[u64; 64], count: usize, tick: Tick) -> Due
     requires { ⌜ count ≤ 64 ⌝ }
     ensures { λ r. ⌜ r ≡ dueFrom 0 (tick .0) (take count (now (expiries .entry))) ⌝ }

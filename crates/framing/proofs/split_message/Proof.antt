@@ -1,4 +1,5 @@
--- `framing::split_message` meets its contract: what is known of the message behind each frame (`Passed`) goes on from frame to frame. Assumes nothing.
+-- `framing::split_message` meets its contract: what is known of the message behind each frame (`Passed`) goes on from
+-- frame to frame. Assumes nothing.
 use Prim.Native.Nat.{_+_, _-_, _≤_}
 use native.Mathlib.Omega.{arith}
 use mathlib.Core.Bool.{Bool, true, false}

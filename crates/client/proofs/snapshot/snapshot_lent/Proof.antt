@@ -1,4 +1,5 @@
--- `client::snapshot::snapshot_lent` meets its contract: the message is planned by its split, and the plan is carried out. Assumes nothing.
+-- `client::snapshot::snapshot_lent` meets its contract: the message is planned by its split, and the plan is carried
+-- out. Assumes nothing.
 use native.Mathlib.Omega.{arith}
 use mathlib.Core.List.{List}
 use mathlib.Core.Path.{_≡_, _∙_}

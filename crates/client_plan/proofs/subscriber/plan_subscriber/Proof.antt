@@ -1,4 +1,5 @@
--- `client_plan::subscriber::plan_subscriber` meets its contract: the state, the frames, and then what the message does. Assumes nothing.
+-- `client_plan::subscriber::plan_subscriber` meets its contract: the state, the frames, and then what the message does.
+-- Assumes nothing.
 use mathlib.Core.List.{List, _++_}
 use mathlib.Core.Option.{Option, none}
 use mathlib.Core.Path.{_≡_, sym, ap, _∙_}
@@ -6,7 +7,7 @@ use borrow.Author.Needs.{needs}
 use denote.Ref.{now}
 use Rattle.answers.proofs.VerdictLaws.{accepted, past-refused}
 use Rattle.answers.specs.declared.refusal.Refusal.{Refusal}
-use Rattle.base.proofs.CheckLaws.{pass-all, stop-all}
+use Rattle.base.proofs.CheckLaws.{stop-second, reach-third}
 use Rattle.base.specs.Bytes.{Bytes}
 use Rattle.base.specs.Checks.{Check, firstOf}
 use Rattle.client_plan.proofs.PlanLaws.{hears, updates}
@@ -63,9 +64,7 @@ behind : (c : tie.After-enum-told) → firstOf (frames (c .before .before .befor
     → p ≡ plan (c .before .before .before .before .before) (firstOf (state (c .before .before .before .before .before) ++ (frames (c .before .before .before .before .before) ++ rest (c .before .before .before .before .before))))
 behind c e p-is =
     let s = c .before .before .before .before .before in
-    p-is
-    ∙ sym (ap (plan s) (pass-all (frames s) (rest s) e))
-    ∙ sym (ap (plan s) (pass-all (state s) (frames s ++ rest s) (good-state c)))
+    p-is ∙ sym (ap (plan s) (reach-third (state s) (frames s) (rest s) (good-state c) e))
 
 check-state-requires : tie.Need-check-state-requires
 check-state-requires c κs = search needs
@@ -108,8 +107,7 @@ returns c =
 returns-2 : tie.Need-returns-2
 returns-2 c =
     let s = c .before .before .before .before .before .before .before .before .before in
-    sym (ap (plan s) (stop-all (frames s) (rest s) _ (published-not (fields s) (firstOf (frames s)) _ (sym (c .before .r2 .given .1) ∙ c .before .before .before .read-published .ensures))))
-    ∙ sym (ap (plan s) (pass-all (state s) (frames s ++ rest s) (good-state (c .before .before .before .before))))
+    sym (ap (plan s) (stop-second (state s) (frames s) (rest s) (good-state (c .before .before .before .before)) _ (published-not (fields s) (firstOf (frames s)) _ (sym (c .before .r2 .given .1) ∙ c .before .before .before .read-published .ensures))))
 
 returns-3 : tie.Need-returns-3
 returns-3 c =

@@ -1,4 +1,5 @@
--- `client_ports::bare::check_bare` meets its contract: the checks in their order, each behind those that passed. Assumes nothing.
+-- `client_ports::bare::check_bare` meets its contract: the checks in their order, each behind those that passed.
+-- Assumes nothing.
 use mathlib.Core.Bool.{not}
 use mathlib.Core.List.{List}
 use mathlib.Core.Path.{refl, ap}

@@ -1,4 +1,5 @@
--- `client_ports::snapshot::check_kvsync_frames` meets its contract: the checks in their order, each behind those that passed. Assumes nothing.
+-- `client_ports::snapshot::check_kvsync_frames` meets its contract: the checks in their order, each behind those that
+-- passed. Assumes nothing.
 use mathlib.Core.List.{List}
 use mathlib.Core.Path.{refl, sym, _∙_}
 use lib.ListN.{drop}

@@ -1,4 +1,5 @@
--- `client_ports::subscriber::check_hugz_frames` meets its contract: the checks in their order, each behind those that passed. Assumes nothing.
+-- `client_ports::subscriber::check_hugz_frames` meets its contract: the checks in their order, each behind those that
+-- passed. Assumes nothing.
 use mathlib.Core.Bool.{not}
 use mathlib.Core.List.{List, [], _∷_}
 use mathlib.Core.Path.{_≡_, refl, sym, ap, _∙_}

@@ -1,4 +1,5 @@
--- `client_ports::subscriber::read_kvpub_frames` meets its contract: the checks in their order, each behind those that passed. Assumes nothing.
+-- `client_ports::subscriber::read_kvpub_frames` meets its contract: the checks in their order, each behind those that
+-- passed. Assumes nothing.
 use Prim.Native.Nat.{ℕ}
 use mathlib.Core.Bool.{Bool, not}
 use mathlib.Core.List.{List}

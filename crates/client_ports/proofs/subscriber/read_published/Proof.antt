@@ -1,4 +1,5 @@
--- `client_ports::subscriber::read_published` meets its contract: the framing, the count of frames, and then the frames. Assumes nothing.
+-- `client_ports::subscriber::read_published` meets its contract: the framing, the count of frames, and then the frames.
+-- Assumes nothing.
 use mathlib.Core.List.{List}
 use mathlib.Core.Path.{sym, ap, _∙_}
 use borrow.Author.Needs.{needs}

@@ -1,4 +1,5 @@
--- `client_ports::subscriber::read_published_frames` meets its contract: the checks go by the first frame. Assumes nothing.
+-- `client_ports::subscriber::read_published_frames` meets its contract: the checks go by the first frame. Assumes
+-- nothing.
 use mathlib.Core.Bool.{Bool}
 use mathlib.Core.List.{List}
 use mathlib.Core.Path.{_≡_, sym, ap, _∙_}

@@ -1,4 +1,5 @@
--- `messages::identity::without_identity` meets its contract: what is behind the body that the reader tells. Assumes nothing.
+-- `messages::identity::without_identity` meets its contract: what is behind the body that the reader tells. Assumes
+-- nothing.
 use Prim.Native.Nat.{_+_, _≤_}
 use native.Mathlib.Omega.{arith}
 use mathlib.Core.Path.{_≡_, sym, _∙_}

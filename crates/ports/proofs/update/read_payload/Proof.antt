@@ -1,4 +1,5 @@
--- `ports::update::read_payload` meets its contract: the checks in their order, each behind those that passed. Assumes nothing.
+-- `ports::update::read_payload` meets its contract: the checks in their order, each behind those that passed. Assumes
+-- nothing.
 use mathlib.Core.List.{List}
 use mathlib.Core.Option.{Option}
 use mathlib.Core.Path.{_≡_, refl, sym, ap, _∙_}

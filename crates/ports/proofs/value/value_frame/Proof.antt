@@ -1,4 +1,5 @@
--- `ports::value::value_frame` meets its contract: the body of the last of five frames, and else nothing. Assumes nothing.
+-- `ports::value::value_frame` meets its contract: the body of the last of five frames, and else nothing. Assumes
+-- nothing.
 use native.Mathlib.Omega.{arith}
 use mathlib.Core.Path.{_≡_, sym, _∙_}
 use borrow.Author.Needs.{needs}

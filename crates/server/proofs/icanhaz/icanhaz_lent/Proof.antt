@@ -1,5 +1,5 @@
--- `server::icanhaz::icanhaz_lent` meets its contract: the checks over the columns come to the refusal of the call, and the snapshot that is written
--- is that of the ledger. Assumes nothing.
+-- `server::icanhaz::icanhaz_lent` meets its contract: the checks over the columns come to the refusal of the call, and
+-- the snapshot that is written is that of the ledger. Assumes nothing.
 use Prim.Native.Nat.{ℕ, _<_}
 use native.Mathlib.Omega.{arith}
 use mathlib.Core.List.{List}

@@ -1,4 +1,5 @@
--- `server::kvset::expiry_at` meets its contract: a lifetime is added to the tick, and without one the row does not expire. Assumes nothing.
+-- `server::kvset::expiry_at` meets its contract: a lifetime is added to the tick, and without one the row does not
+-- expire. Assumes nothing.
 use native.Mathlib.Omega.{arith}
 use mathlib.Core.Path.{refl}
 use borrow.Author.Needs.{needs}

@@ -1,5 +1,5 @@
--- `server::kvset::kvset_lent` meets its contract: the checks come to a plan, and what is planned is made in every column and published.
--- Assumes nothing.
+-- `server::kvset::kvset_lent` meets its contract: the checks come to a plan, and what is planned is made in every
+-- column and published. Assumes nothing.
 use Prim.Native.Nat.{ℕ, suc, _<_}
 use native.Mathlib.Omega.{arith}
 use mathlib.Core.List.{List, _++_}

@@ -1,5 +1,6 @@
--- `server_clock::tick::tick_lent` meets its contract: it does what was planned. A row that expires is taken out of every column once its removal is
--- written; a sign of life is written; each of them, and a Tick with nothing to do, notes its time. Assumes nothing.
+-- `server_clock::tick::tick_lent` meets its contract: it does what was planned. A row that expires is taken out of
+-- every column once its removal is written; a sign of life is written; each of them, and a Tick with nothing to do,
+-- notes its time. Assumes nothing.
 use mathlib.Core.List.{[]}
 use mathlib.Core.Path.{_≡_, refl}
 use denote.Ref.{now}

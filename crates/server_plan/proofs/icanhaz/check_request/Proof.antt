@@ -1,21 +1,22 @@
--- `server_plan::icanhaz::check_request` meets its contract: the test of the state, the port and the room, one behind the other. Assumes nothing.
+-- `server_plan::icanhaz::check_request` meets its contract: the test of the state, the port and the room, one behind
+-- the other. Assumes nothing.
 use Prim.Native.Nat.{ℕ}
 use mathlib.Core.List.{List, _++_}
-use mathlib.Core.Path.{_≡_, sym, _∙_}
+use mathlib.Core.Option.{none}
+use mathlib.Core.Path.{_≡_, sym, ap, _∙_}
 use borrow.Author.Needs.{needs}
 use denote.Ref.{now}
-use Rattle.answers.proofs.VerdictLaws.{accepted, past-refused}
+use Rattle.answers.proofs.VerdictLaws.{accepted, refused, past-refused}
 use Rattle.answers.specs.Refusals.{verdict}
 use Rattle.answers.specs.declared.refusal.Refusal.{Refusal}
-use Rattle.answers.specs.declared.refusal.Verdict.the-variants.{Accept, Refuse}
+use Rattle.answers.specs.declared.refusal.Verdict.the-variants.{Refuse}
 use Rattle.base.specs.Checks.{Check, firstOf}
-use Rattle.base.proofs.CheckLaws.{both-passed}
+use Rattle.base.proofs.CheckLaws.{both-passed, stop-second, reach-third}
 use Rattle.framing.specs.Splits.{bodyIn}
 use Rattle.ports.proofs.SizeLaws.{request-short}
 use Rattle.ports.specs.Bodies.{framedBy, icanhazBy}
 use Rattle.ports.specs.Ports.{icanhazChecks}
 use Rattle.rows.specs.Rows.{Rows}
-use Rattle.server_plan.proofs.RequestLaws.{port-refused, by-room}
 use Rattle.server_plan.specs.Refusals.{snapshotChecks}
 use Rattle.server_state.proofs.FormLaws.{good-columns}
 use Rattle.table.proofs.TableLaws.{values-fit}
@@ -40,11 +41,11 @@ port s = icanhazBy (now (s .args .msg)) (s .args .split)
 ill : (c : tie.After-r) → Refuse (c .r .given .0 .0) ≡ verdict (firstOf (stateChecks (c .before .before .before .before)))
 ill c = sym (c .r .given .1) ∙ c .before .before .check-state .ensures
 
-well : (c : tie.After-enum-told) → Accept ≡ verdict (firstOf (stateChecks (c .before .before .before .before)))
-well c = sym (c .enum-told .given .1) ∙ c .before .before .check-state .ensures
+well : (c : tie.After-enum-told) → firstOf (stateChecks (c .before .before .before .before)) ≡ none
+well c = accepted (firstOf (stateChecks (c .before .before .before .before))) (sym (c .enum-told .given .1) ∙ c .before .before .check-state .ensures)
 
-taken : (c : tie.After-enum-told2) → Accept ≡ verdict (firstOf (port (c .before .before .before .before .before .before .before)))
-taken c = sym (c .enum-told2 .given .1) ∙ c .before .before .check-icanhaz .ensures
+taken : (c : tie.After-enum-told2) → firstOf (port (c .before .before .before .before .before .before .before)) ≡ none
+taken c = accepted (firstOf (port (c .before .before .before .before .before .before .before))) (sym (c .enum-told2 .given .1) ∙ c .before .before .check-icanhaz .ensures)
 
 check-state-requires : tie.Need-check-state-requires
 check-state-requires c κs = search needs
@@ -67,10 +68,10 @@ enum-told-2 c = search needs
 check-room-requires : tie.Need-check-room-requires
 check-room-requires c κs =
     let s = c .before .before .before .before .before .before .before in
-    let g = good-columns (now (s .args .keys)) (now (s .args .key-lengths)) (now (s .args .value-lengths)) (now (s .args .numbers)) (now (s .args .expiries)) (s .args .count) (s .args .header) (accepted (firstOf (stateChecks s)) (well (c .before .before .before))) in
+    let g = good-columns (now (s .args .keys)) (now (s .args .key-lengths)) (now (s .args .value-lengths)) (now (s .args .numbers)) (now (s .args .expiries)) (s .args .count) (s .args .header) (well (c .before .before .before)) in
     let msg = now (s .args .msg) in
     let p = s .args .split .places in
-    let f = both-passed (framedBy 3 (s .args .split .framing)) (icanhazChecks (bodyIn msg p 0) (bodyIn msg p 1) (bodyIn msg p 2)) (accepted (firstOf (port s)) (taken c)) in
+    let f = both-passed (framedBy 3 (s .args .split .framing)) (icanhazChecks (bodyIn msg p 0) (bodyIn msg p 1) (bodyIn msg p 2)) (taken c) in
     (g .rows .count, (g .rows .key-lengths, (values-fit (s .args .count) (now (s .args .value-lengths)) (g .rows .value-lengths), request-short (bodyIn msg p 0) (bodyIn msg p 1) (bodyIn msg p 2) (f .1))))
 
 returns : tie.Need-returns
@@ -81,12 +82,12 @@ returns c =
 returns-2 : tie.Need-returns-2
 returns-2 c =
     let s = c .before .before .before .before .before .before .before .before in
-    port-refused (stateChecks s) (port s) (roomChecks s) (well (c .before .before .before .before)) _ (sym (c .before .r2 .given .1) ∙ c .before .before .before .check-icanhaz .ensures)
+    sym (ap verdict (stop-second (stateChecks s) (port s) (roomChecks s) (well (c .before .before .before .before)) _ (refused _ (firstOf (port s)) (sym (c .before .r2 .given .1) ∙ c .before .before .before .check-icanhaz .ensures))))
 
 returns-3 : tie.Need-returns-3
 returns-3 c =
     let s = c .before .before .before .before .before .before .before .before in
-    by-room (stateChecks s) (port s) (roomChecks s) (well (c .before .before .before .before)) (taken (c .before)) (c .check-room .ensures)
+    c .check-room .ensures ∙ sym (ap verdict (reach-third (stateChecks s) (port s) (roomChecks s) (well (c .before .before .before .before)) (taken (c .before))))
 
 pub check-request-spec : {M : Type 1} → statement M
 check-request-spec =

@@ -1,4 +1,5 @@
--- `server_plan::icanhaz::check_room` meets its contract: the room is held against the snapshot's length, which is far below the largest number. Assumes nothing.
+-- `server_plan::icanhaz::check_room` meets its contract: the room is held against the snapshot's length, which is far
+-- below the largest number. Assumes nothing.
 use Prim.Native.Nat.{ℕ}
 use lib.ListN.{length}
 use borrow.Author.Needs.{needs}

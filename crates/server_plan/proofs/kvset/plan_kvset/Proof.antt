@@ -1,11 +1,12 @@
--- `server_plan::kvset::plan_kvset` meets its contract: the state, the frames, the tick, and then the update. Assumes nothing.
+-- `server_plan::kvset::plan_kvset` meets its contract: the state, the frames, the tick, and then the update. Assumes
+-- nothing.
 use mathlib.Core.List.{List, _++_}
 use mathlib.Core.Option.{Option, none}
 use mathlib.Core.Path.{_≡_, sym, ap, _∙_}
 use denote.Ref.{now}
 use Rattle.answers.proofs.VerdictLaws.{accepted, past-refused}
 use Rattle.answers.specs.declared.refusal.Refusal.{Refusal}
-use Rattle.base.proofs.CheckLaws.{pass-all, stop-all, both-passed}
+use Rattle.base.proofs.CheckLaws.{pass-all, both-passed, stop-second, reach-third}
 use Rattle.base.specs.Bytes.{Bytes, isNil}
 use Rattle.base.specs.Checks.{Check, firstOf}
 use Rattle.messages.specs.Fields.{Fields}
@@ -109,8 +110,7 @@ returns-2 c =
     let r = c .before in
     let t = r .before .before .before in
     let s = t .before .before .before .before .before .before in
-    sym (ap (plan s) (stop-all (frames s) (time s ++ update s (fields s)) _ (update-refused (fields s .properties) (firstOf (frames s)) _ (sym (r .r2 .given .1) ∙ r .before .before .read-kvset .ensures))))
-    ∙ sym (ap (plan s) (pass-all (state s) (frames s ++ (time s ++ update s (fields s))) (good-state t)))
+    sym (ap (plan s) (stop-second (state s) (frames s) (time s ++ update s (fields s)) (good-state t) _ (update-refused (fields s .properties) (firstOf (frames s)) _ (sym (r .r2 .given .1) ∙ r .before .before .read-kvset .ensures))))
 
 returns-3 : tie.Need-returns-3
 returns-3 c =
@@ -119,8 +119,7 @@ returns-3 c =
     let t = u .before .before .before in
     let s = t .before .before .before .before .before .before in
     past-refused (plan s) (time s) (update s (fields s)) _ (sym (r .r3 .given .1) ∙ r .before .before .check-tick .ensures)
-    ∙ sym (ap (plan s) (pass-all (frames s) (time s ++ update s (fields s)) (good-frames u .0)))
-    ∙ sym (ap (plan s) (pass-all (state s) (frames s ++ (time s ++ update s (fields s))) (good-state t)))
+    ∙ sym (ap (plan s) (reach-third (state s) (frames s) (time s ++ update s (fields s)) (good-state t) (good-frames u .0)))
 
 returns-4 : tie.Need-returns-4
 returns-4 c =
@@ -131,8 +130,7 @@ returns-4 c =
     c .plan-update .ensures
     ∙ ap (planOf (firstOf (update s (fields s))) (change s (fields s)) (s .args .header .number .0)) (good-frames u .1)
     ∙ sym (ap (plan s) (pass-all (time s) (update s (fields s)) (good-time w)))
-    ∙ sym (ap (plan s) (pass-all (frames s) (time s ++ update s (fields s)) (good-frames u .0)))
-    ∙ sym (ap (plan s) (pass-all (state s) (frames s ++ (time s ++ update s (fields s))) (good-state t)))
+    ∙ sym (ap (plan s) (reach-third (state s) (frames s) (time s ++ update s (fields s)) (good-state t) (good-frames u .0)))
 
 pub plan-kvset-spec : {M : Type 1} → statement M
 plan-kvset-spec =

@@ -1,5 +1,6 @@
--- `server_plan::tick::plan_deed` meets its contract: the row that is due decides, then the number and the room that its removal needs; where none is due,
--- the time since the last publication and the room for a sign of life. Assumes nothing.
+-- `server_plan::tick::plan_deed` meets its contract: the row that is due decides, then the number and the room that its
+-- removal needs; where none is due, the time since the last publication and the room for a sign of life. Assumes
+-- nothing.
 use native.Mathlib.Omega.{arith}
 use mathlib.Core.List.{List}
 use denote.Ref.{now}

@@ -1,4 +1,5 @@
--- `server_plan::tick::plan_tick` meets its contract: the state, the tick, and then what there is to do. Assumes nothing.
+-- `server_plan::tick::plan_tick` meets its contract: the state, the tick, and then what there is to do. Assumes
+-- nothing.
 use mathlib.Core.List.{List, _++_}
 use mathlib.Core.Option.{Option}
 use mathlib.Core.Path.{_≡_, sym, ap, _∙_}

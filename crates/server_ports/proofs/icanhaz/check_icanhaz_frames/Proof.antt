@@ -1,4 +1,5 @@
--- `server_ports::icanhaz::check_icanhaz_frames` meets its contract: the checks in their order, each behind those that passed. Assumes nothing.
+-- `server_ports::icanhaz::check_icanhaz_frames` meets its contract: the checks in their order, each behind those that
+-- passed. Assumes nothing.
 use mathlib.Core.List.{List}
 use mathlib.Core.Path.{refl}
 use lib.ListN.{drop}

@@ -1,4 +1,5 @@
--- `server_ports::kvset::read_kvset` meets its contract: the framing, the count of frames, and then the frames. Assumes nothing.
+-- `server_ports::kvset::read_kvset` meets its contract: the framing, the count of frames, and then the frames. Assumes
+-- nothing.
 use mathlib.Core.List.{List}
 use mathlib.Core.Option.{Option}
 use mathlib.Core.Path.{sym, ap, _∙_}

@@ -1,4 +1,5 @@
--- `server_ports::kvset::read_kvset_frames` meets its contract: the checks in their order, each behind those that passed. Assumes nothing.
+-- `server_ports::kvset::read_kvset_frames` meets its contract: the checks in their order, each behind those that
+-- passed. Assumes nothing.
 use mathlib.Core.List.{List}
 use mathlib.Core.Option.{Option}
 use mathlib.Core.Path.{refl, sym, _∙_}

@@ -1,5 +1,5 @@
--- `server_state::due_row` meets its contract. The loop's invariant: `first` is the row that goes of those from `i` on. The measure is `i`.
--- Assumes nothing.
+-- `server_state::due_row` meets its contract. The loop's invariant: `first` is the row that goes of those from `i` on.
+-- The measure is `i`. Assumes nothing.
 use Prim.Native.Nat.{_-_, _≤_}
 use native.Mathlib.Omega.{arith}
 use mathlib.Core.Path.{_≡_, ap, _∙_}
