@@ -31,7 +31,8 @@ pub const HEARTBEAT_MS: u64 = 1000;
 // How many bytes HUGZ takes.
 const HUGZ_LENGTH: usize = 22;
 
-// What a Tick comes to: it is refused, the row at a place expires under the next number, it gives a sign of life, or it does nothing.
+// What a Tick comes to: it is refused, the row at a place expires under the next number, it gives a sign of life, or it
+// does nothing.
 pub enum Step {
     Refuse(Refusal),
     Expire(usize, Sequence),
