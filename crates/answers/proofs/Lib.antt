@@ -1,2 +1,3 @@
+pub mod PromiseLaws
 pub mod RefusalLaws
 pub mod VerdictLaws

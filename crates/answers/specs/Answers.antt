@@ -8,7 +8,7 @@ use Rattle.answers.specs.declared.answer.Kind.the-variants.{Refused, Sta
 use Rattle.answers.specs.declared.answer.Kind.{Kind}
 use Rattle.answers.specs.declared.refusal.Refusal.{Refusal}
 use Rattle.base.specs.Bytes.{Bytes}
-use Rattle.names.specs.declared.numbers.Sequence.{Sequence}
+use Rattle.numbers.specs.declared.sequence.Sequence.{Sequence}
 
 abbrev pub answer : Kind → ℕ → Answer
 answer kind written = record { kind = kind; written = written }

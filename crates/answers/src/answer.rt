@@ -1,7 +1,7 @@
 // Answers: a record of the kind, with the number of the state after the call, and of the bytes written.
 use crate::refusal;
 use crate::refusal::Refusal;
-use names::numbers::Sequence;
+use numbers::sequence::Sequence;
 ghost use mathlib.Core.Path.{_≡_};
 ghost use Rattle.answers.specs.Answers.{answer, kindNumber, sequenceIn, refusalIn};
 

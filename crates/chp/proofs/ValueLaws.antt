@@ -1,5 +1,5 @@
 -- The value frame of a message ends it. Assumes nothing.
-use Prim.Native.Nat.{ℕ, zero, suc, _+_, _-_, _≤_}
+use Prim.Native.Nat.{ℕ, zero, suc, _+_, _-_}
 use native.Mathlib.Omega.{arith}
 use mathlib.Core.Bool.{Bool, true, false, not}
 use mathlib.Core.List.{List, [], _∷_, _++_, append-assoc, append-nil}
@@ -7,13 +7,13 @@ use mathlib.Core.Option.{Option, none, some, Option·getD}
 use mathlib.Core.Path.{_≡_, refl, sym, ap, _∙_}
 use lib.Dec.{eqb}
 use lib.ListN.{length, getD, take, drop, take-append-drop, length-append}
-use lib.Seq.{take-length, drop-append-seam}
+use lib.Seq.{drop-append-seam}
 use borrow.Author.Tests.{eqb-true}
 use Rattle.answers.specs.declared.refusal.Refusal.the-variants.{Framing, FrameCount}
 use Rattle.base.specs.Bytes.{Bytes}
 use Rattle.base.specs.Checks.Check.{when}
 use Rattle.base.specs.Checks.{firstOf}
-use Rattle.chp.specs.Values.{IsValue}
+use Rattle.chp.specs.Values.{IsValueLength}
 use Rattle.frames.proofs.FrameGrammar.{ended, some-frame}
 use Rattle.frames.proofs.MessageLaws.{frames-step, none-some, prepended}
 use Rattle.frames.specs.Messages.{through, framesIn, frameAt}
@@ -73,21 +73,13 @@ value-ends msg = go (framesIn msg) refl
     go none e = nothing
     go (some bodies) e = counted bodies e (eqb (length bodies) 5) refl
 
--- ---- the part
-module _ (msg v : Bytes) (e : v ≡ valueIn msg) where
-  abbrev h : Ends msg (valueIn msg)
-  h = value-ends msg
-
-  long : length msg ≡ length (h .front) + length v
-  long = ap length (h .is) ∙ length-append (h .front) (valueIn msg) ∙ ap (λ (b : Bytes). length (h .front) + length b) (sym e)
-
-  pub value-within : length v ≤ length msg
-  value-within = omega (arith, long)
-
-  pub value-part : IsValue msg (record { start = length msg - length v; length = length v })
-  value-part =
-      let from : length msg - length v ≡ length (h .front) = omega (arith, long) in
-      record {
-        is = ap (λ (n : ℕ). take (length v) (drop n msg)) from ∙ ap (λ (s : Bytes). take (length v) (drop (length (h .front)) s)) (h .is) ∙ ap (take (length v)) (drop-append-seam (h .front) (valueIn msg)) ∙ ap (λ (b : Bytes). take (length b) (valueIn msg)) e ∙ take-length (valueIn msg);
-        ends = omega (arith, long);
-      }
+-- ---- its length
+pub value-length : (msg v : Bytes) → v ≡ valueIn msg → IsValueLength msg (length v)
+value-length msg v e =
+    let h = value-ends msg in
+    let long : length msg ≡ length (h .front) + length v = ap length (h .is) ∙ length-append (h .front) (valueIn msg) ∙ ap (λ (b : Bytes). length (h .front) + length b) (sym e) in
+    let from : length msg - length v ≡ length (h .front) = omega (arith, long) in
+    record {
+      within = omega (arith, long);
+      is = ap (λ (n : ℕ). drop n msg) from ∙ ap (drop (length (h .front))) (h .is) ∙ drop-append-seam (h .front) (valueIn msg);
+    }

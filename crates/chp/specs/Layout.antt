@@ -1,42 +1,23 @@
--- The version, and states in which every field holds a mark of its own.
+-- The version, and marks: each field of a row, of a header and of an answer holds a number of its own.
 use Prim.Native.Nat.{ℕ}
+use mathlib.Core.List.{List, [], _∷_, _++_}
+use mathlib.Core.Path.{_≡_}
 use lib.ListN.{replicate}
-use Rattle.chp.specs.declared.ClientReply.{ClientReply}
-use Rattle.chp.specs.declared.ServerReply.{ServerReply}
-use Rattle.chp.specs.declared.plain.PlainAnswer.{PlainAnswer}
-use Rattle.table.specs.declared.Table.{Table}
+use Rattle.base.specs.Bytes.{Bytes}
+use Rattle.frame_forms.specs.Lengths.{valueRoom}
+use Rattle.keys.specs.Keys.{keyRoom}
 
--- 0.7.0: a million times the major, a thousand times the minor, and the patch
+-- 0.8.0: a million times the major, a thousand times the minor, and the patch
 abbrev pub version : ℕ
-version = 7000
+version = 8000
 
-abbrev markedTable : Table
-markedTable =
-    record { keys = replicate 6400 1; values = replicate 16384 2; «key_lengths» = replicate 64 3; «value_lengths» = replicate 64 4; count = 5 }
-
-abbrev markedAnswer : PlainAnswer
-markedAnswer = record { kind = 11; refusal = 12; number = 13; written = 14 }
-
-abbrev pub markedServer : ServerReply
-markedServer =
-    record {
-      state = record {
-        table = markedTable;
-        numbers = replicate 64 6;
-        expiries = replicate 64 7;
-        header = record { number = record { 0 = 8 }; «last_tick» = record { 0 = 9 }; «last_published» = record { 0 = 10 } };
-      };
-      answer = markedAnswer;
-    }
-
-abbrev pub markedClient : ClientReply
-markedClient =
-    record {
-      state = record {
-        table = markedTable;
-        subtree = replicate 96 6;
-        «subtree_length» = 7;
-        header = record { phase = 8; number = record { 0 = 9 }; clock = record { 0 = 10 } };
-      };
-      answer = markedAnswer;
-    }
+-- the bytes of a row, those of the key and those of the value; its lengths, that of the key and that of the value; the
+-- stamps, number and expiry; the bytes of a subtree; the fields of a server's header, of a client's and of an answer
+pub record Marked (cell : Bytes) (lengths stamps : List ℕ) (subtree : Bytes) (server client answer : List ℕ) : Type 0 where
+  pub of-cell : cell ≡ replicate keyRoom 1 ++ replicate valueRoom 2
+  pub of-lengths : lengths ≡ 3 ∷ 4 ∷ []
+  pub of-stamps : stamps ≡ 5 ∷ 6 ∷ []
+  pub of-server : server ≡ 7 ∷ 8 ∷ 9 ∷ 10 ∷ []
+  pub of-subtree : subtree ≡ replicate keyRoom 11
+  pub of-client : client ≡ 12 ∷ 13 ∷ 14 ∷ 15 ∷ 16 ∷ []
+  pub of-answer : answer ≡ 17 ∷ 18 ∷ 19 ∷ 20 ∷ []

@@ -1,4 +1,3 @@
 pub mod Exports
 pub mod Layout
-pub mod Plain
 pub mod Values

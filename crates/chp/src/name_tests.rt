@@ -1,8 +1,7 @@
 // Tests of names, for hosts: 1 where a test holds, and else 0.
-use names::keys;
 ghost use mathlib.Core.Bool.{cond};
 ghost use mathlib.Core.Path.{_≡_};
-ghost use Rattle.names.specs.Keys.{isKey, isSubtree, under};
+ghost use Rattle.keys.specs.Keys.{isKey, isSubtree, under};
 
 fn number(test: bool) -> u64
     ensures { λ r. ⌜ r ≡ cond test 1 0 ⌝ }

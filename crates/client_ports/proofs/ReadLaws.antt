@@ -11,9 +11,9 @@ use Rattle.client_ports.specs.Readings.{endOf, rowOf, sentOf, beatOf, kv
 use Rattle.client_ports.specs.declared.snapshot.Sent.the-variants.{Refuse as Unsent, Kthxbai, Kvsync}
 use Rattle.client_ports.specs.declared.subscriber.Published.the-variants.{Refuse as Unpublished, Hugz, Kvpub}
 use Rattle.messages.specs.Fields.{Fields}
-use Rattle.names.specs.Numbers.{sequence}
-use Rattle.names.specs.Words.{wordKthxbai, wordHugz}
-use Rattle.names.specs.declared.numbers.Sequence.{Sequence}
+use Rattle.numbers.specs.Sequences.{sequence}
+use Rattle.frame_forms.specs.Words.{wordKthxbai, wordHugz}
+use Rattle.numbers.specs.declared.sequence.Sequence.{Sequence}
 
 -- ---- one that is refused
 module _ (f : Fields) (x : Option Refusal) (r : Refusal) (e : x ≡ some r) where

@@ -9,8 +9,8 @@ use Rattle.client_ports.specs.declared.snapshot.Sent.{Sent}
 use Rattle.client_ports.specs.declared.subscriber.Published.the-variants.{Refuse as Unpublished, Hugz, Kvpub}
 use Rattle.client_ports.specs.declared.subscriber.Published.{Published}
 use Rattle.messages.specs.Fields.{Fields}
-use Rattle.names.specs.Numbers.{sequence}
-use Rattle.names.specs.Words.{wordKthxbai, wordHugz}
+use Rattle.numbers.specs.Sequences.{sequence}
+use Rattle.frame_forms.specs.Words.{wordKthxbai, wordHugz}
 
 -- ---- at the port for snapshots, by the refusal of its checks: KTHXBAI, or else KVSYNC, whose number is ignored
 unfoldable pub endOf : Fields → Option Refusal → Sent

@@ -12,7 +12,8 @@ ghost use Rattle.ports.specs.Ports.{bareChecks};
 
 // Whether both frames are empty.
 pub(crate) fn check_bare(msg: &[u8], places: Places) -> Verdict
-    ensures { λ r. ⌜ r ≡ verdict (firstOf (bareChecks (bodyIn (now (msg .entry)) places 2) (bodyIn (now (msg .entry)) places 3))) ⌝ }
+    ensures { λ r. ⌜ r ≡ verdict (firstOf (bareChecks (bodyIn (now (msg .entry)) places 2)
+        (bodyIn (now (msg .entry)) places 3))) ⌝ }
 {
     if framing::body(msg, places, UUID).len() != 0 {
         return Verdict::Refuse(Refusal::BadUuid);

@@ -3,25 +3,24 @@ use crate::bare::check_bare;
 use answers::refusal::Refusal;
 use answers::refusal::Verdict;
 use base::bytes;
+use frame_forms::lengths;
+use frame_forms::words;
 use framing::Places;
 use framing::Split;
 use messages::FRAMES;
 use messages::HEAD;
 use messages::SEQUENCE;
 use messages::VALUE;
-use names::keys;
-use names::lengths;
-use names::numbers;
-use names::numbers::Numbered;
-use names::numbers::Sequence;
-use names::words;
+use numbers::sequence;
+use numbers::sequence::Numbered;
+use numbers::sequence::Sequence;
 use ports::frame_count::check_framing;
 ghost use mathlib.Core.Path.{_≡_};
 ghost use Rattle.answers.specs.Refusals.{verdict};
 ghost use Rattle.base.specs.Checks.{firstOf};
 ghost use Rattle.client_ports.specs.Readings.{endOf, sentOf};
 ghost use Rattle.ports.specs.Bodies.{fieldsAt, snapshotBy};
-ghost use Rattle.ports.specs.Ports.{heldChecks, kvsyncChecks, kthxbaiChecks, snapshotChecks};
+ghost use Rattle.ports.specs.Ports.{rowValueChecks, kvsyncChecks, kthxbaiChecks, snapshotChecks};
 
 // What a message of a snapshot is: it is refused, it is the end with the server's number, or it is a row.
 pub enum Sent {
@@ -30,9 +29,9 @@ pub enum Sent {
     Kvsync,
 }
 
-// The value of a row that is held.
-fn check_held(value: &[u8]) -> Verdict
-    ensures { λ r. ⌜ r ≡ verdict (firstOf (heldChecks (now (value .entry)))) ⌝ }
+// The value of a row.
+fn check_row_value(value: &[u8]) -> Verdict
+    ensures { λ r. ⌜ r ≡ verdict (firstOf (rowValueChecks (now (value .entry)))) ⌝ }
 {
     if value.len() == 0 {
         return Verdict::Refuse(Refusal::BadValue);
@@ -45,7 +44,8 @@ fn check_held(value: &[u8]) -> Verdict
 
 // The frames of a KVSYNC in the snapshot of a subtree.
 fn check_kvsync_frames(msg: &[u8], places: Places, subtree: &[u8]) -> Verdict
-    ensures { λ r. ⌜ r ≡ verdict (firstOf (kvsyncChecks (now (subtree .entry)) (fieldsAt (now (msg .entry)) places))) ⌝ }
+    ensures { λ r. ⌜ r ≡ verdict (firstOf
+        (kvsyncChecks (now (subtree .entry)) (fieldsAt (now (msg .entry)) places))) ⌝ }
 {
     let key = framing::body(msg, places, HEAD);
     if !keys::is_key(key) {
@@ -54,26 +54,27 @@ fn check_kvsync_frames(msg: &[u8], places: Places, subtree: &[u8]) -> Verdict
     if !keys::is_under(subtree, key) {
         return Verdict::Refuse(Refusal::BadSubtree);
     }
-    let Numbered::By(_) = numbers::read_sequence(framing::body(msg, places, SEQUENCE)) else {
+    let Numbered::By(_) = sequence::read_sequence(framing::body(msg, places, SEQUENCE)) else {
         return Verdict::Refuse(Refusal::BadSequence);
     };
     match check_bare(msg, places) {
         Verdict::Refuse(r) => Verdict::Refuse(r),
-        Verdict::Accept => check_held(framing::body(msg, places, VALUE)),
+        Verdict::Accept => check_row_value(framing::body(msg, places, VALUE)),
     }
 }
 
 // The frames of a KTHXBAI at the end of the snapshot of a subtree.
 fn read_kthxbai_frames(msg: &[u8], places: Places, subtree: &[u8]) -> Sent
-    ensures { λ r. ⌜ r ≡ endOf (fieldsAt (now (msg .entry)) places) (firstOf (kthxbaiChecks (now (subtree .entry)) (fieldsAt (now (msg .entry)) places))) ⌝ }
+    ensures { λ r. ⌜ r ≡ endOf (fieldsAt (now (msg .entry)) places)
+        (firstOf (kthxbaiChecks (now (subtree .entry)) (fieldsAt (now (msg .entry)) places))) ⌝ }
 {
     if !bytes::same_bytes(subtree, framing::body(msg, places, VALUE)) {
         return Sent::Refuse(Refusal::BadSubtree);
     }
-    let Numbered::By(n) = numbers::read_sequence(framing::body(msg, places, SEQUENCE)) else {
+    let Numbered::By(n) = sequence::read_sequence(framing::body(msg, places, SEQUENCE)) else {
         return Sent::Refuse(Refusal::BadSequence);
     };
-    if !numbers::is_kept(n) {
+    if !sequence::is_kept(n) {
         return Sent::Refuse(Refusal::BadSequence);
     }
     match check_bare(msg, places) {
@@ -84,7 +85,8 @@ fn read_kthxbai_frames(msg: &[u8], places: Places, subtree: &[u8]) -> Sent
 
 // The frames of a KTHXBAI, or else of a KVSYNC.
 fn read_sent_frames(msg: &[u8], places: Places, subtree: &[u8]) -> Sent
-    ensures { λ r. ⌜ r ≡ sentOf (fieldsAt (now (msg .entry)) places) (firstOf (snapshotChecks (now (subtree .entry)) (fieldsAt (now (msg .entry)) places))) ⌝ }
+    ensures { λ r. ⌜ r ≡ sentOf (fieldsAt (now (msg .entry)) places)
+        (firstOf (snapshotChecks (now (subtree .entry)) (fieldsAt (now (msg .entry)) places))) ⌝ }
 {
     if words::is_kthxbai(framing::body(msg, places, HEAD)) {
         return read_kthxbai_frames(msg, places, subtree);
@@ -97,7 +99,8 @@ fn read_sent_frames(msg: &[u8], places: Places, subtree: &[u8]) -> Sent
 
 // The client's port for snapshots of its subtree: KTHXBAI, or else KVSYNC.
 pub fn read_sent(msg: &[u8], split: Split, subtree: &[u8]) -> Sent
-    ensures { λ r. ⌜ r ≡ sentOf (fieldsAt (now (msg .entry)) (split .places)) (firstOf (snapshotBy (now (subtree .entry)) (now (msg .entry)) split)) ⌝ }
+    ensures { λ r. ⌜ r ≡ sentOf (fieldsAt (now (msg .entry)) (split .places))
+        (firstOf (snapshotBy (now (subtree .entry)) (now (msg .entry)) split)) ⌝ }
 {
     let framing = split.framing;
     match check_framing(framing, FRAMES) {

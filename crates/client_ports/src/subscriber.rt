@@ -2,6 +2,7 @@
 use crate::bare::check_bare;
 use answers::refusal::Refusal;
 use answers::refusal::Verdict;
+use frame_forms::words;
 use framing::Places;
 use framing::Split;
 use messages::FRAMES;
@@ -10,11 +11,9 @@ use messages::PROPERTIES;
 use messages::SEQUENCE;
 use messages::UUID;
 use messages::VALUE;
-use names::keys;
-use names::numbers;
-use names::numbers::Numbered;
-use names::numbers::Sequence;
-use names::words;
+use numbers::sequence;
+use numbers::sequence::Numbered;
+use numbers::sequence::Sequence;
 use ports::frame_count::check_framing;
 use ports::update::check_payload;
 ghost use mathlib.Core.Path.{_≡_};
@@ -33,15 +32,16 @@ pub enum Published {
 
 // The frames of a KVPUB.
 fn read_kvpub_frames(msg: &[u8], places: Places) -> Published
-    ensures { λ r. ⌜ r ≡ kvpubOf (fieldsAt (now (msg .entry)) places) (firstOf (kvpubChecks (fieldsAt (now (msg .entry)) places))) ⌝ }
+    ensures { λ r. ⌜ r ≡ kvpubOf (fieldsAt (now (msg .entry)) places)
+        (firstOf (kvpubChecks (fieldsAt (now (msg .entry)) places))) ⌝ }
 {
     if !keys::is_key(framing::body(msg, places, HEAD)) {
         return Published::Refuse(Refusal::BadKey);
     }
-    let Numbered::By(n) = numbers::read_sequence(framing::body(msg, places, SEQUENCE)) else {
+    let Numbered::By(n) = sequence::read_sequence(framing::body(msg, places, SEQUENCE)) else {
         return Published::Refuse(Refusal::BadSequence);
     };
-    if !numbers::is_kept(n) {
+    if !sequence::is_kept(n) {
         return Published::Refuse(Refusal::BadSequence);
     }
     match check_payload(
@@ -58,10 +58,10 @@ fn read_kvpub_frames(msg: &[u8], places: Places) -> Published
 fn check_hugz_frames(msg: &[u8], places: Places) -> Verdict
     ensures { λ r. ⌜ r ≡ verdict (firstOf (hugzChecks (fieldsAt (now (msg .entry)) places))) ⌝ }
 {
-    let Numbered::By(n) = numbers::read_sequence(framing::body(msg, places, SEQUENCE)) else {
+    let Numbered::By(n) = sequence::read_sequence(framing::body(msg, places, SEQUENCE)) else {
         return Verdict::Refuse(Refusal::BadSequence);
     };
-    if n.0 != 0 {
+    if !sequence::is_zero(n) {
         return Verdict::Refuse(Refusal::BadSequence);
     }
     match check_bare(msg, places) {
@@ -77,7 +77,8 @@ fn check_hugz_frames(msg: &[u8], places: Places) -> Verdict
 
 // The frames of a HUGZ, or else of a KVPUB.
 fn read_published_frames(msg: &[u8], places: Places) -> Published
-    ensures { λ r. ⌜ r ≡ publishedOf (fieldsAt (now (msg .entry)) places) (firstOf (publishedChecks (fieldsAt (now (msg .entry)) places))) ⌝ }
+    ensures { λ r. ⌜ r ≡ publishedOf (fieldsAt (now (msg .entry)) places)
+        (firstOf (publishedChecks (fieldsAt (now (msg .entry)) places))) ⌝ }
 {
     if words::is_hugz(framing::body(msg, places, HEAD)) {
         match check_hugz_frames(msg, places) {
@@ -94,7 +95,8 @@ fn read_published_frames(msg: &[u8], places: Places) -> Published
 
 // The client's port for what is published: HUGZ, or else KVPUB.
 pub fn read_published(msg: &[u8], split: Split) -> Published
-    ensures { λ r. ⌜ r ≡ publishedOf (fieldsAt (now (msg .entry)) (split .places)) (firstOf (subscriberBy (now (msg .entry)) split)) ⌝ }
+    ensures { λ r. ⌜ r ≡ publishedOf (fieldsAt (now (msg .entry)) (split .places))
+        (firstOf (subscriberBy (now (msg .entry)) split)) ⌝ }
 {
     let framing = split.framing;
     match check_framing(framing, FRAMES) {

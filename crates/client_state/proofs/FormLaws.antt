@@ -1,82 +1,74 @@
 -- What a well-formed state is known to have, and what is to be shown of one. Assumes nothing.
-use Prim.Native.Nat.{ℕ, _≤_}
+use Prim.Native.Nat.{_≤_}
 use mathlib.Core.Bool.{true, false, not, _&&_}
-use mathlib.Core.List.{List, _++_}
+use mathlib.Core.List.{_++_}
 use mathlib.Core.Option.{none}
 use mathlib.Core.Path.{_≡_, _∙_}
 use lib.Dec.{eqb}
-use borrow.Author.Tests.{le-ltb, ltb-false, not-false}
+use borrow.Author.Tests.{le-ltb, ltb-false, le-leb, leb-true, not-false}
 use Rattle.base.proofs.CheckLaws.{passed, pass-all, both-passed}
-use Rattle.base.specs.Bytes.{Bytes, every}
+use Rattle.base.specs.Bytes.{every}
 use Rattle.base.specs.Checks.{firstOf}
-use Rattle.client_state.specs.IllFormed.{headerFaults, subtreeFaults, illForms, illFormsOf, WellFormed}
-use Rattle.client_state.specs.Views.{isWaiting, subtreeOf}
+use Rattle.client_state.specs.IllFormed.{headerFaults, subtreeFaults, illForms, WellFormed}
+use Rattle.client_state.specs.Views.{isWaiting, subtreeOf, keyList}
 use Rattle.client_state.specs.declared.Client.{Client}
 use Rattle.client_state.specs.declared.Header.{Header}
-use Rattle.names.specs.Keys.{keyRoom, isSubtree, under}
-use Rattle.names.specs.Numbers.{maxSequence, maxTick}
-use Rattle.table.proofs.TableLaws.{GoodRows, good-rows, rows-good}
-use Rattle.table.specs.Columns.{texts}
-use Rattle.table.specs.Faults.{rowFaults}
+use Rattle.keys.specs.Keys.{keyRoom, isSubtree, under}
+use Rattle.numbers.specs.Sequences.{maxSequence}
+use Rattle.numbers.specs.Ticks.{maxTick}
+use Rattle.row_cells.proofs.FaultLaws.{good-rows, rows-good}
+use Rattle.row_cells.specs.Faults.{rowFaults, GoodRows}
 
--- a header in range
+-- ---- a header in range
 pub record GoodHeader (h : Header) : Type 0 where
   pub number : h .number .0 ≤ maxSequence
   pub clock : h .clock .0 ≤ maxTick
   pub waits : (isWaiting (h .phase) && not (eqb (h .number .0) 0)) ≡ false
 
-pub good-header : (h : Header) → firstOf (headerFaults h) ≡ none → GoodHeader h
+good-header : (h : Header) → firstOf (headerFaults h) ≡ none → GoodHeader h
 good-header h e =
     let faults = headerFaults h in
     record {
-      number = ltb-false maxSequence (h .number .0) (passed 0 faults e);
-      clock = ltb-false maxTick (h .clock .0) (passed 1 faults e);
+      number = leb-true (h .number .0) maxSequence (not-false _ (passed 0 faults e));
+      clock = leb-true (h .clock .0) maxTick (not-false _ (passed 1 faults e));
       waits = passed 2 faults e;
     }
 
 header-good : (h : Header) → GoodHeader h → firstOf (headerFaults h) ≡ none
 unfolding firstOf
-header-good h g = rw (le-ltb maxSequence (h .number .0) (g .number), le-ltb maxTick (h .clock .0) (g .clock), g .waits)
+header-good h g = rw (le-leb (h .number .0) maxSequence (g .number), le-leb (h .clock .0) maxTick (g .clock), g .waits)
 
--- of n rows: the columns of a well-formed state, its subtree and its header
-pub record Good (keys : Bytes) (keyLengths valueLengths : List ℕ) (n : ℕ) (subtree : Bytes) (len : ℕ) (h : Header) : Type 0 where
-  pub rows : GoodRows keys keyLengths valueLengths n
-  pub fits : len ≤ keyRoom
-  pub is-subtree : isSubtree subtree ≡ true
-  pub are-under : every (under subtree) (texts 96 n keyLengths keys) ≡ true
-  pub header : GoodHeader h
-
-abbrev pub GoodClient : Client → Type 0
-GoodClient c = Good (c .table .keys) (c .table .«key_lengths») (c .table .«value_lengths») (c .table .count) (subtreeOf c) (c .«subtree_length») (c .header)
-
-module _ (keys : Bytes) (kl vl : List ℕ) (n : ℕ) (subtree : Bytes) (len : ℕ) (h : Header) where
-  pub good-columns : firstOf (illForms keys kl vl n subtree len h) ≡ none → Good keys kl vl n subtree len h
-  good-columns e =
-      let a = both-passed (rowFaults keys kl vl n) (subtreeFaults keys kl n subtree len ++ headerFaults h) e in
-      let b = both-passed (subtreeFaults keys kl n subtree len) (headerFaults h) (a .1) in
-      let faults = subtreeFaults keys kl n subtree len in
-      record {
-        rows = good-rows keys kl vl n (a .0);
-        fits = ltb-false keyRoom len (passed 0 faults (b .0));
-        is-subtree = not-false _ (passed 1 faults (b .0));
-        are-under = not-false _ (passed 2 faults (b .0));
-        header = good-header h (b .1);
-      }
-
-  subtree-good : Good keys kl vl n subtree len h → firstOf (subtreeFaults keys kl n subtree len) ≡ none
-  unfolding firstOf
-  subtree-good g = rw (le-ltb keyRoom len (g .fits), g .is-subtree, g .are-under)
-
-  pub columns-good : Good keys kl vl n subtree len h → firstOf (illForms keys kl vl n subtree len h) ≡ none
-  columns-good g =
-      pass-all (rowFaults keys kl vl n) (subtreeFaults keys kl n subtree len ++ headerFaults h) (rows-good keys kl vl n (g .rows))
-      ∙ pass-all (subtreeFaults keys kl n subtree len) (headerFaults h) (subtree-good g)
-      ∙ header-good h (g .header)
+-- ---- a state
+pub record GoodClient (c : Client) : Type 0 where
+  pub rows : GoodRows (c .header .count) (c .bytes) (c .lengths)
+  pub fits : c .header .«subtree_length» ≤ keyRoom
+  pub is-subtree : isSubtree (subtreeOf c) ≡ true
+  pub are-under : every (under (subtreeOf c)) (keyList c) ≡ true
+  pub header : GoodHeader (c .header)
 
 pub good-client : (c : Client) → WellFormed c → GoodClient c
-unfolding illFormsOf
-good-client c e = good-columns (c .table .keys) (c .table .«key_lengths») (c .table .«value_lengths») (c .table .count) (subtreeOf c) (c .«subtree_length») (c .header) e
+unfolding illForms
+good-client c e =
+    let h = c .header in
+    let faults = subtreeFaults c in
+    let a = both-passed (rowFaults (h .count) (c .bytes) (c .lengths)) (faults ++ headerFaults h) e in
+    let b = both-passed faults (headerFaults h) (a .1) in
+    record {
+      rows = good-rows (h .count) (c .bytes) (c .lengths) (a .0);
+      fits = ltb-false keyRoom (h .«subtree_length») (passed 0 faults (b .0));
+      is-subtree = not-false _ (passed 1 faults (b .0));
+      are-under = not-false _ (passed 2 faults (b .0));
+      header = good-header h (b .1);
+    }
+
+subtree-good : (c : Client) → GoodClient c → firstOf (subtreeFaults c) ≡ none
+unfolding firstOf
+subtree-good c g = rw (le-ltb keyRoom (c .header .«subtree_length») (g .fits), g .is-subtree, g .are-under)
 
 pub client-good : (c : Client) → GoodClient c → WellFormed c
-unfolding illFormsOf
-client-good c g = columns-good (c .table .keys) (c .table .«key_lengths») (c .table .«value_lengths») (c .table .count) (subtreeOf c) (c .«subtree_length») (c .header) g
+unfolding illForms
+client-good c g =
+    let h = c .header in
+    pass-all (rowFaults (h .count) (c .bytes) (c .lengths)) (subtreeFaults c ++ headerFaults h) (rows-good (h .count) (c .bytes) (c .lengths) (g .rows))
+    ∙ pass-all (subtreeFaults c) (headerFaults h) (subtree-good c g)
+    ∙ header-good h (g .header)

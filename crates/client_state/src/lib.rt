@@ -1,29 +1,35 @@
-// The state of a client: the part of the map under its subtree, its phase, its number and its silence clock; the test of a state.
-use names::numbers::Sequence;
-use names::numbers::Tick;
-use table::Table;
+// The state of a client: the rows under its subtree, the subtree, and a header.
+use keys::KEY_ROOM;
+use numbers::sequence::Sequence;
+use numbers::tick::Tick;
+use row_cells::RowBytes;
+use row_cells::RowLengths;
 
 pub mod subtree;
-pub mod test;
+pub mod validate;
 
-// The phase of a client that waits for its snapshot, and that of one that has it. Any number but the first means the second.
+// The phase of a client that waits for its snapshot, and that of one that has it. Any number but the first means the
+// second.
 pub const WAITING: u64 = 0;
 
 pub const LIVE: u64 = 1;
 
-// The phase, the number of the last update that was taken, and the time from which the server's silence is counted.
-#[repr(C)]
+pub type SubtreeBytes = [u8; KEY_ROOM];
+
+// The phase, the number of the last update that was taken, the time from which the server's silence is counted, how
+// long the subtree is, and how many rows there are.
 pub struct Header {
     pub phase: u64,
     pub number: Sequence,
     pub clock: Tick,
+    pub subtree_length: u64,
+    pub count: usize,
 }
 
-// A row is a key and its value. The subtree stands at the front of its array.
-#[repr(C)]
+// Row i has cell i of bytes and of lengths. The subtree is at the front of its array.
 pub struct Client {
-    pub table: Table,
-    pub subtree: [u8; 96],
-    pub subtree_length: u64,
+    pub bytes: RowBytes,
+    pub lengths: RowLengths,
+    pub subtree: SubtreeBytes,
     pub header: Header,
 }

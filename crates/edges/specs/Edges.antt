@@ -6,12 +6,12 @@ use mathlib.Core.List.{List, [], _∷_, _++_}
 use mathlib.Core.Option.{Option, none, some}
 use Rattle.base.specs.Bytes.{Bytes, ascii}
 use Rattle.cells.specs.Cells.{All}
-use Rattle.client_plan.specs.Calls.Call.{snapshot, subscriber, writeIcanhaz, writeKvset, lookup}
+use Rattle.client_calls.specs.Calls.Call.{snapshot, subscriber, writeIcanhaz, writeKvset, lookup}
 use Rattle.client_state.specs.Views.{Replica}
 use Rattle.edges.specs.Outcomes.Edge.{server, client, start}
 use Rattle.edges.specs.Outcomes.{Edge, Holds, refused, wrote, started, applied, stale, synced, live, nothing, absent}
 use Rattle.rows.specs.Rows.{Rows}
-use Rattle.server_plan.specs.Calls.Call.{kvset, tick, icanhaz}
+use Rattle.server_calls.specs.Calls.Call.{kvset, tick, icanhaz}
 use Rattle.server_state.specs.Views.{Entry, Ledger}
 
 -- ---- states

@@ -5,12 +5,12 @@ use mathlib.Core.Path.{_≡_}
 use Rattle.answers.specs.Answers.{kindNumber, sequenceIn, refusalIn}
 use Rattle.answers.specs.declared.answer.Answer.{Answer}
 use Rattle.base.specs.Bytes.{Bytes}
-use Rattle.client.specs.Start.{startAnswer}
-use Rattle.client_plan.specs.Calls.{Call as ClientCall}
+use Rattle.client_calls.specs.Start.{startAnswer}
+use Rattle.client_calls.specs.Calls.{Call as ClientCall}
 use Rattle.client_state.specs.Views.{Replica}
 use Rattle.joining.specs.Ends.ClientStart.{wait}
 use Rattle.joining.specs.Ends.{serverNext, serverBytes, serverAnswer, clientStart, clientNext, clientBytes, clientAnswer}
-use Rattle.server_plan.specs.Calls.{Call as ServerCall}
+use Rattle.server_calls.specs.Calls.{Call as ServerCall}
 use Rattle.server_state.specs.Views.{Entry, Ledger}
 
 -- the kind and the refusal by their numbers, the number that is told, how many bytes are said to be written, the bytes, and the whole state

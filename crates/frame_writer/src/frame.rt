@@ -52,8 +52,8 @@ fn put_header(out: &mut [u8], at: usize, more: bool, n: usize) -> usize
     output::put_bytes(out, at, &long)
 }
 
-// Writes a frame from place at on and gives the place behind it. Where it does not fit, the output stays as it is, and at
-// is given back.
+// Writes a frame from place at on and gives the place behind it. Where it does not fit, the output stays as it is, and
+// at is given back.
 pub fn put_frame(out: &mut [u8], at: usize, more: bool, body: &[u8]) -> usize
     ensures { λ r. ⌜ Written (now (out .entry)) at (frame more (now (body .entry))) r (now (out .exit)) ⌝ }
 {

@@ -21,7 +21,7 @@ use Rattle.frames.specs.Grammar.IsFrame.{short, long}
 use Rattle.frames.specs.Grammar.IsMessage.{further, final}
 use Rattle.frames.specs.Grammar.{IsFrame, IsMessage}
 use Rattle.frames.specs.Messages.{last, through, framesIn, flagOf}
-use Rattle.frames.specs.Steps.{held, shortOf, longOf, flagged, stepOf}
+use Rattle.frames.specs.Steps.{frameWithin, shortOf, longOf, flagged, stepOf}
 use Rattle.frames.specs.declared.step.Step.the-variants.{Frame, Broken}
 use Rattle.frames.specs.declared.step.Step.{Step}
 
@@ -42,8 +42,8 @@ record Front (s : Bytes) (start len : ℕ) (more : Bool) : Type 0 where
   pub is : IsFrame more (take len (drop start s)) front
   pub whole : s ≡ front ++ drop len (drop start s)
 
-pub held-known : (a len left : ℕ) (more : Bool) (start n : ℕ) (m : Bool) → held a len left more ≡ Frame start n m → (len ≤ left) × (a ≡ start) × (len ≡ n) × (more ≡ m)
-held-known a len left more start n m e = go (leb len left) refl e
+pub within-known : (a len left : ℕ) (more : Bool) (start n : ℕ) (m : Bool) → frameWithin a len left more ≡ Frame start n m → (len ≤ left) × (a ≡ start) × (len ≡ n) × (more ≡ m)
+within-known a len left more start n m e = go (leb len left) refl e
   where
     go : (t : Bool) → leb len left ≡ t → cond t (Frame a len more) Broken ≡ Frame start n m → (len ≤ left) × (a ≡ start) × (len ≡ n) × (more ≡ m)
     go true t e = (leb-true len left t, cc, cc, cc)
@@ -81,7 +81,7 @@ module _ (start len : ℕ) (m : Bool) where
   unfolding shortOf every
   read-short more [] o e = absurd (let z : _≡_ {A = ℕ} 0 1 = cc in omega arith)
   read-short more (size ∷ rest) o e =
-      let h = held-known 2 size (length rest) more start len m e in
+      let h = within-known 2 size (length rest) more start len m e in
       subst₃ (λ (a : ℕ) (b : ℕ) (c : Bool). Front (flagOf more false ∷ size ∷ rest) a b c) (h .1) (h .2) (h .3)
       (short-front more size rest (ltb-true size 256 (and-left (isOctet size) (every isOctet rest) o)) (h .0))
 
@@ -89,10 +89,10 @@ module _ (start len : ℕ) (m : Bool) where
   unfolding longOf
   read-long more t o e = go (leb 8 (length t)) refl e
     where
-      go : (u : Bool) → leb 8 (length t) ≡ u → cond u (held 9 (number (take 8 t)) (length (drop 8 t)) more) Broken ≡ Frame start len m → Front (flagOf more true ∷ t) start len m
+      go : (u : Bool) → leb 8 (length t) ≡ u → cond u (frameWithin 9 (number (take 8 t)) (length (drop 8 t)) more) Broken ≡ Frame start len m → Front (flagOf more true ∷ t) start len m
       go false u e = absurd (let z : _≡_ {A = ℕ} 0 1 = cc in omega arith)
       go true u e =
-          let h = held-known 9 (number (take 8 t)) (length (drop 8 t)) more start len m e in
+          let h = within-known 9 (number (take 8 t)) (length (drop 8 t)) more start len m e in
           subst₃ (λ (a : ℕ) (b : ℕ) (c : Bool). Front (flagOf more true ∷ t) a b c) (h .1) (h .2) (h .3)
           (long-front more t (number (take 8 t)) o (leb-true 8 (length t) u) refl (h .0))
 

@@ -12,13 +12,13 @@ use lib.Seq.{length-take-le, take-append-seam, drop-append-seam, take-append-le,
 use borrow.Author.Tests.{le-leb}
 use Rattle.base.specs.Bytes.{Bytes}
 use Rattle.base.specs.Octets.{number}
-use Rattle.frames.proofs.FrameGrammar.{held-known, ended}
+use Rattle.frames.proofs.FrameGrammar.{within-known, ended}
 use Rattle.frames.proofs.FrameLaws.{Sized, round-trip}
 use Rattle.frames.proofs.MessageLaws.{enough, rest-less, frames-step, none-some, prepended}
 use Rattle.frames.proofs.StepLaws.{Sound, step-sound, step-known}
 use Rattle.frames.specs.Messages.{through, framesIn, encode}
 use Rattle.frames.specs.Runs.{endThrough, endUpTo, endIn, messageIn, joined, cutThrough, cutUpTo, messagesIn}
-use Rattle.frames.specs.Steps.{held, shortOf, longOf, flagged, stepOf}
+use Rattle.frames.specs.Steps.{frameWithin, shortOf, longOf, flagged, stepOf}
 use Rattle.frames.specs.declared.step.Step.the-variants.{Frame, Broken}
 use Rattle.frames.specs.declared.step.Step.{Step}
 
@@ -44,10 +44,10 @@ end-step s = enough none (λ (f : Bytes → Option ℕ) (t : Bytes). endThrough 
 
 -- ---- the bytes of a frame are read as that frame, whatever stands behind them: f is the frame, r and q are what
 -- stands there
-held-again : (head size left other : ℕ) (more : Bool) (start len : ℕ) (m : Bool) → len ≤ other → held head size left more ≡ Frame start len m
-    → held head size other more ≡ Frame start len m
-held-again head size left other more start len m l e =
-    let k = held-known head size left more start len m e in
+within-again : (head size left other : ℕ) (more : Bool) (start len : ℕ) (m : Bool) → len ≤ other → frameWithin head size left more ≡ Frame start len m
+    → frameWithin head size other more ≡ Frame start len m
+within-again head size left other more start len m l e =
+    let k = within-known head size left more start len m e in
     rw (le-leb size other (omega (arith, k .2))) (cc (k .1, k .2, k .3))
 
 module _ (r q : Bytes) (start len : ℕ) (m : Bool) (h : 2 ≤ start) where
@@ -56,21 +56,21 @@ module _ (r q : Bytes) (start len : ℕ) (m : Bool) (h : 2 ≤ start) where
     unfolding shortOf
     short-again [] l e = absurd (omega arith)
     short-again (size ∷ f) l e =
-        let k = held-known 2 size (length (f ++ r)) more start len m e in
-        held-again 2 size (length (f ++ r)) (length (f ++ q)) more start len m (omega (arith, k .1, length-append f q)) e
+        let k = within-known 2 size (length (f ++ r)) more start len m e in
+        within-again 2 size (length (f ++ r)) (length (f ++ q)) more start len m (omega (arith, k .1, length-append f q)) e
 
     long-again : (f : Bytes) → suc (length f) ≡ start + len → longOf more (f ++ r) ≡ Frame start len m → longOf more (f ++ q) ≡ Frame start len m
     unfolding longOf
     long-again f l e = go (leb 8 (length (f ++ r))) e
       where
-        go : (t : Bool) → cond t (held 9 (number (take 8 (f ++ r))) (length (drop 8 (f ++ r))) more) Broken ≡ Frame start len m → longOf more (f ++ q) ≡ Frame start len m
+        go : (t : Bool) → cond t (frameWithin 9 (number (take 8 (f ++ r))) (length (drop 8 (f ++ r))) more) Broken ≡ Frame start len m → longOf more (f ++ q) ≡ Frame start len m
         go false e = absurd (let z : _≡_ {A = ℕ} 0 1 = cc in omega arith)
         go true e =
-            let k = held-known 9 (number (take 8 (f ++ r))) (length (drop 8 (f ++ r))) more start len m e in
+            let k = within-known 9 (number (take 8 (f ++ r))) (length (drop 8 (f ++ r))) more start len m e in
             let i : 8 ≤ length f = omega (arith, k .1) in
             let a = length-append f q in
             rw (le-leb 8 (length (f ++ q)) (omega arith), take-append-le 8 f q i)
-            (held-again 9 (number (take 8 f)) (length (drop 8 (f ++ r))) (length (drop 8 (f ++ q))) more start len m
+            (within-again 9 (number (take 8 f)) (length (drop 8 (f ++ r))) (length (drop 8 (f ++ q))) more start len m
             (omega (arith, k .1, length-drop 8 (f ++ q)))
             (rw (take-append-le 8 f r i) at e))
 

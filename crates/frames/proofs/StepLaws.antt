@@ -12,7 +12,7 @@ use Rattle.base.proofs.CutLaws.{tail-part}
 use Rattle.base.specs.Bytes.{Bytes}
 use Rattle.base.specs.Octets.{number, eightOf}
 use Rattle.base.specs.declared.octets.Eight.the-variants.{Number, Other}
-use Rattle.frames.specs.Steps.{held, shortOf, longOf, flagged, stepOf}
+use Rattle.frames.specs.Steps.{frameWithin, shortOf, longOf, flagged, stepOf}
 use Rattle.frames.specs.declared.step.Step.the-variants.{Frame, Broken}
 use Rattle.frames.specs.declared.step.Step.{Step}
 
@@ -26,19 +26,19 @@ abbrev pub Sound : ℕ → Step → Type 0
 Sound n (Frame start len more) = (2 ≤ start) × (start + len ≤ n)
 Sound n Broken = Unit {0}
 
-held-sound : (n start len left : ℕ) (more : Bool) → 2 ≤ start → start + left ≤ n → Sound n (held start len left more)
-held-sound n start len left more h k = cond-if (Sound n) (leb len left) _ _ (λ e. omega (arith, leb-true len left e)) (λ e. tt)
+within-sound : (n start len left : ℕ) (more : Bool) → 2 ≤ start → start + left ≤ n → Sound n (frameWithin start len left more)
+within-sound n start len left more h k = cond-if (Sound n) (leb len left) _ _ (λ e. omega (arith, leb-true len left e)) (λ e. tt)
 
 short-sound : (more : Bool) (s : Bytes) → Sound (suc (length s)) (shortOf more s)
 unfolding shortOf
 short-sound more [] = tt
-short-sound more (size ∷ s) = held-sound (suc (suc (length s))) 2 size (length s) more (omega arith) (omega arith)
+short-sound more (size ∷ s) = within-sound (suc (suc (length s))) 2 size (length s) more (omega arith) (omega arith)
 
 long-sound : (more : Bool) (s : Bytes) → Sound (suc (length s)) (longOf more s)
 unfolding longOf
 long-sound more s =
     cond-if (Sound (suc (length s))) (leb 8 (length s)) _ _
-    (λ e. held-sound (suc (length s)) 9 (number (take 8 s)) (length (drop 8 s)) more (omega arith)
+    (λ e. within-sound (suc (length s)) 9 (number (take 8 s)) (length (drop 8 s)) more (omega arith)
     (omega (arith, leb-true 8 (length s) e, length-drop 8 s)))
     (λ e. tt)
 
@@ -86,19 +86,19 @@ module _ (more : Bool) (s : Bytes) where
       go [] h = refl
       go (x ∷ t) h = absurd (omega arith)
 
-  pub short-some : 1 ≤ length s → shortOf more s ≡ held 2 (getD s 0 0) (length s - 1) more
+  pub short-some : 1 ≤ length s → shortOf more s ≡ frameWithin 2 (getD s 0 0) (length s - 1) more
   unfolding shortOf
   short-some h = go s h
     where
-      go : (t : Bytes) → 1 ≤ length t → shortOf more t ≡ held 2 (getD t 0 0) (length t - 1) more
+      go : (t : Bytes) → 1 ≤ length t → shortOf more t ≡ frameWithin 2 (getD t 0 0) (length t - 1) more
       go [] h = absurd (omega arith)
-      go (x ∷ t) h = ap (λ (n : ℕ). held 2 x n more) (omega arith)
+      go (x ∷ t) h = ap (λ (n : ℕ). frameWithin 2 x n more) (omega arith)
 
   pub long-none : length s < 8 → longOf more s ≡ Broken
   unfolding longOf
   long-none h = rw (lt-leb 8 (length s) h)
 
-  pub long-some : 8 ≤ length s → longOf more s ≡ held 9 (number (take 8 s)) (length s - 8) more
+  pub long-some : 8 ≤ length s → longOf more s ≡ frameWithin 9 (number (take 8 s)) (length s - 8) more
   unfolding longOf
   long-some h = rw (le-leb 8 (length s) h, length-drop 8 s)
 
@@ -110,8 +110,8 @@ size-known s h = rw (eq-eqb (length (take 8 s)) 8 (length-take-le 8 s h))
 pub size-never : (s : Bytes) → 8 ≤ length s → Other ≡ eightOf (take 8 s) → ⊥
 size-never s h e = let k = size-known s h in let z : _≡_ {A = ℕ} 0 1 = cc in omega arith
 
-pub long-read : (more : Bool) (s : Bytes) (n : ℕ) → 8 ≤ length s → Number n ≡ eightOf (take 8 s) → longOf more s ≡ held 9 n (length s - 8) more
+pub long-read : (more : Bool) (s : Bytes) (n : ℕ) → 8 ≤ length s → Number n ≡ eightOf (take 8 s) → longOf more s ≡ frameWithin 9 n (length s - 8) more
 long-read more s n h e =
     let k = size-known s h in
     let f : number (take 8 s) ≡ n = cc in
-    long-some more s h ∙ ap (λ (m : ℕ). held 9 m (length s - 8) more) f
+    long-some more s h ∙ ap (λ (m : ℕ). frameWithin 9 m (length s - 8) more) f

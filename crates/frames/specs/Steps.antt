@@ -11,16 +11,16 @@ use Rattle.frames.specs.declared.step.Step.{Step}
 use Rattle.frames.specs.declared.step.Step.the-variants.{Frame, Broken}
 
 -- a body of len bytes behind a head of start bytes, if the bytes that are left behind the head hold it whole
-abbrev pub held : ℕ → ℕ → ℕ → Bool → Step
-held start len left more = cond (leb len left) (Frame start len more) Broken
+abbrev pub frameWithin : ℕ → ℕ → ℕ → Bool → Step
+frameWithin start len left more = cond (leb len left) (Frame start len more) Broken
 
 -- a size of one octet; of eight. The bytes are those behind the flag octet
 unfoldable pub shortOf : Bool → Bytes → Step
 shortOf more [] = Broken
-shortOf more (size ∷ rest) = held 2 size (length rest) more
+shortOf more (size ∷ rest) = frameWithin 2 size (length rest) more
 
 unfoldable pub longOf : Bool → Bytes → Step
-longOf more s = cond (leb 8 (length s)) (held 9 (number (take 8 s)) (length (drop 8 s)) more) Broken
+longOf more s = cond (leb 8 (length s)) (frameWithin 9 (number (take 8 s)) (length (drop 8 s)) more) Broken
 
 -- by the flag octet
 unfoldable pub flagged : ℕ → Bytes → Step

@@ -1,7 +1,7 @@
 // The frame that some bytes begin with.
 use base::octets;
 ghost use mathlib.Core.Path.{_≡_};
-ghost use Rattle.frames.specs.Steps.{stepOf, shortOf, longOf, held};
+ghost use Rattle.frames.specs.Steps.{stepOf, shortOf, longOf, frameWithin};
 
 // A frame at the front of some bytes: its body is the len bytes from start on, and more says whether another frame
 // follows. Broken where the bytes begin with no whole frame.
@@ -16,7 +16,7 @@ pub enum Step {
 
 // The frame whose head is the first start bytes and whose body is the next len of the left ones.
 fn hold(start: usize, len: usize, left: usize, more: bool) -> Step
-    ensures { λ r. ⌜ r ≡ held start len left more ⌝ }
+    ensures { λ r. ⌜ r ≡ frameWithin start len left more ⌝ }
 {
     if len <= left {
         return Step::Frame { start, len, more };

@@ -1,4 +1,4 @@
--- A book stays sound, and what an accepted call is known to have passed: rows in key order, at most 64, each with a key and a value of 1 to 256 bytes.
+-- A book stays sound, and what an accepted call is known to have passed: rows in key order, at most as many as there is room for, each with a key and a value of 1 to 256 bytes.
 -- Assumes nothing.
 use Prim.Native.Nat.{ℕ, suc, _-_, _≤_, _<_}
 use native.Mathlib.Omega.{arith}
@@ -19,28 +19,29 @@ use Rattle.base.specs.Checks.{Check, firstOf}
 use Rattle.cells.specs.Cells.{All}
 use Rattle.frames.specs.Messages.{frameAt}
 use Rattle.messages.specs.Fields.{fieldsOf}
-use Rattle.names.specs.Keys.{isKey}
-use Rattle.names.specs.Numbers.{maxSequence, isSequence}
-use Rattle.names.specs.declared.order.Order.the-variants.{Less, Equal, Greater}
-use Rattle.names.specs.declared.order.Order.{Order}
-use Rattle.names.specs.Order.{orderOf}
+use Rattle.keys.specs.Keys.{isKey}
+use Rattle.numbers.specs.Sequences.{maxSequence, isSequence}
+use Rattle.key_order.specs.declared.Order.the-variants.{Less, Equal, Greater}
+use Rattle.key_order.specs.declared.Order.{Order}
+use Rattle.key_order.specs.Order.{orderOf}
 use Rattle.ports.specs.Ports.{framed, payloadChecks, kvsetChecks, kvsetPort, tickChecks}
 use Rattle.rows.proofs.RowLaws.{sorted-set, sorted-remove, set-remove, length-set, length-remove}
 use Rattle.rows.specs.Rows.{Rows, Sorted, place, setRow, part, removeRow, keysIn, hasKey}
-use Rattle.server.specs.Start.{startChecks, startRefusal}
-use Rattle.server_plan.specs.Calls.Call.{kvset, tick, icanhaz}
-use Rattle.server_plan.specs.Calls.{Call}
-use Rattle.server_plan.specs.Deeds.Deed.{expire, beat, quiet}
-use Rattle.server_plan.specs.Deeds.{Deed, deedOf, deed}
-use Rattle.server_plan.specs.Refusals.{updateChecks, deedChecks, callChecks}
-use Rattle.server_state.proofs.DueLaws.{due-key}
-use Rattle.server_state.specs.Due.{leastDue}
+use Rattle.server_calls.specs.Start.{startChecks, startRefusal}
+use Rattle.server_calls.specs.Calls.Call.{kvset, tick, icanhaz}
+use Rattle.server_calls.specs.Calls.{Call}
+use Rattle.server_calls.specs.Deeds.Deed.{expire, beat, quiet}
+use Rattle.server_calls.specs.Deeds.{Deed, deedOf, deed}
+use Rattle.server_calls.specs.Refusals.{storeChecks, deedChecks, callChecks}
+use Rattle.server_calls.proofs.DueLaws.{due-key}
+use Rattle.server_calls.specs.Due.{leastDue}
 use Rattle.server_state.specs.Views.{Held}
 use Rattle.joining.proofs.PublicationLaws.{GoodUpdate}
 use Rattle.joining.specs.Book.ServerStart.{begin}
 use Rattle.joining.specs.Book.{Book, ServerStart, blank, bookStart, bookRefusal, bookKvset, bookTick, entered, bookNext, bookAfter}
 use Rattle.base.specs.Logs.Log.{empty, _▷_}
 use Rattle.base.specs.Logs.{Log}
+use Rattle.row_cells.specs.Sizes.{maxRows}
 
 -- ---- what holds of all rows
 module _ {A : Type 0} (P : Bytes × A → Type 0) where
@@ -87,7 +88,7 @@ module _ (b : Book) (msg : Bytes) (t room : ℕ) where
   front = when (not (isKey (frameAt 0 msg))) BadKey ∷ when (not (isSequence (frameAt 1 msg))) BadSequence ∷ []
 
   abbrev change : List (Check Refusal)
-  change = updateChecks (hasKey (frameAt 0 msg) (b .rows)) (length (b .rows)) (b .number) (fieldsOf msg) room
+  change = storeChecks (hasKey (frameAt 0 msg) (b .rows)) (length (b .rows)) (b .number) (fieldsOf msg) room
 
   module _ (e : bookRefusal b (kvset msg t room) ≡ none) where
     port-passed : firstOf (kvsetPort msg) ≡ none
@@ -110,7 +111,7 @@ module _ (b : Book) (msg : Bytes) (t room : ℕ) where
     pub kvset-below : b .number ≤ maxSequence → b .number < maxSequence
     kvset-below h = omega (arith, eqb-false (b .number) maxSequence (passed 1 change change-passed))
 
-    has-room : (not (isNil (frameAt 4 msg)) && (not (hasKey (frameAt 0 msg) (b .rows)) && leb 64 (length (b .rows)))) ≡ false
+    has-room : (not (isNil (frameAt 4 msg)) && (not (hasKey (frameAt 0 msg) (b .rows)) && leb maxRows (length (b .rows)))) ≡ false
     has-room = passed 0 change change-passed
 
     sound-kvset : Sound b → Sound (bookKvset b (fieldsOf msg) t)
@@ -123,11 +124,11 @@ module _ (b : Book) (msg : Bytes) (t room : ℕ) where
         held : Option ℕ → Held
         held expiry = record { value = frameAt 4 msg; expiry = expiry }
 
-        few : (y : Bool) → hasKey key (b .rows) ≡ y → (not y && leb 64 (length (b .rows))) ≡ false → cond y (length (b .rows)) (suc (length (b .rows))) ≤ 64
+        few : (y : Bool) → hasKey key (b .rows) ≡ y → (not y && leb maxRows (length (b .rows))) ≡ false → cond y (length (b .rows)) (suc (length (b .rows))) ≤ 64
         few true f g = s .count
-        few false f g = leb-false 64 (length (b .rows)) g
+        few false f g = leb-false maxRows (length (b .rows)) g
 
-        go : (e : Option ℕ) (y : Bool) → isNil (frameAt 4 msg) ≡ y → (not y && (not (hasKey key (b .rows)) && leb 64 (length (b .rows)))) ≡ false
+        go : (e : Option ℕ) (y : Bool) → isNil (frameAt 4 msg) ≡ y → (not y && (not (hasKey key (b .rows)) && leb maxRows (length (b .rows)))) ≡ false
             → Sound (record { number = suc (b .number); lastTick = t; lastPublished = t; rows = cond y (removeRow key (b .rows)) (setRow key (held e) (removeRow key (b .rows))) })
         go e true f g = record {
           sorted = sorted-remove key (b .rows) (s .sorted);

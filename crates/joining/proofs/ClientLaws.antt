@@ -16,17 +16,17 @@ use Rattle.base.proofs.CheckLaws.{passed, both-passed}
 use Rattle.base.specs.Bytes.{Bytes, same}
 use Rattle.base.specs.Checks.{Check, firstOf}
 use Rattle.base.specs.Octets.{number}
-use Rattle.client_plan.specs.Calls.Call.{snapshot, subscriber, writeIcanhaz, writeKvset, ask, lookup}
-use Rattle.client_plan.specs.Calls.{Call}
-use Rattle.client_plan.specs.Effects.Effect.{sync, finish, hear, stale, outside, apply}
-use Rattle.client_plan.specs.Effects.{Effect, snapshotEffect, updateEffect, subscriberEffect}
-use Rattle.client_plan.specs.Next.{effectNext, acceptedNext}
-use Rattle.client_plan.specs.Refusals.{effectChecks, timeChecks, callChecks}
+use Rattle.client_calls.specs.Calls.Call.{snapshot, subscriber, writeIcanhaz, writeKvset, ask, lookup}
+use Rattle.client_calls.specs.Calls.{Call}
+use Rattle.client_calls.specs.Effects.Effect.{sync, finish, hear, stale, outside, apply}
+use Rattle.client_calls.specs.Effects.{Effect, snapshotEffect, updateEffect, subscriberEffect}
+use Rattle.client_calls.specs.Next.{effectNext, acceptedNext}
+use Rattle.client_calls.specs.Refusals.{effectChecks, timeChecks, callChecks}
 use Rattle.client_state.specs.Views.{Replica}
 use Rattle.frames.specs.Messages.{frameAt}
 use Rattle.messages.specs.Fields.{fieldsOf}
-use Rattle.names.specs.Keys.{under}
-use Rattle.names.specs.Words.{wordKthxbai, wordHugz}
+use Rattle.keys.specs.Keys.{under}
+use Rattle.frame_forms.specs.Words.{wordKthxbai, wordHugz}
 use Rattle.ports.specs.Ports.{framed, kthxbaiChecks, kvsyncChecks, snapshotChecks, snapshotPort, subscriberPort}
 use Rattle.rows.specs.Rows.{hasKey}
 use Rattle.joining.proofs.PublicationLaws.{passes-kvpub, passes-hugz}

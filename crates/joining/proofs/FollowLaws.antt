@@ -11,21 +11,21 @@ use Rattle.base.proofs.CheckLaws.{pass-all}
 use Rattle.base.specs.Bytes.{Bytes, isNil}
 use Rattle.base.specs.Checks.{firstOf}
 use Rattle.base.specs.Octets.{number}
-use Rattle.client_plan.specs.Calls.Call.{subscriber}
-use Rattle.client_plan.specs.Effects.Effect.{stale, outside, apply}
-use Rattle.client_plan.specs.Effects.{updateEffect}
-use Rattle.client_plan.specs.Next.{updated, effectNext}
-use Rattle.client_plan.specs.Refusals.{overfills, callChecks}
+use Rattle.client_calls.specs.Calls.Call.{subscriber}
+use Rattle.client_calls.specs.Effects.Effect.{stale, outside, apply}
+use Rattle.client_calls.specs.Effects.{updateEffect}
+use Rattle.client_calls.specs.Next.{rowsAfter, effectNext}
+use Rattle.client_calls.specs.Refusals.{overfilledBy, callChecks}
 use Rattle.client_state.specs.Views.{Replica}
 use Rattle.frames.specs.Messages.{frameAt}
 use Rattle.messages.specs.Fields.{Fields, fieldsOf}
-use Rattle.names.specs.Keys.{under}
-use Rattle.names.specs.Numbers.{maxSequence}
+use Rattle.keys.specs.Keys.{under}
+use Rattle.numbers.specs.Sequences.{maxSequence}
 use Rattle.ports.specs.Ports.{subscriberPort}
 use Rattle.rows.proofs.RowLaws.{sorted-keep, keep-set-in, keep-set-out, keep-remove-in, keep-remove-out, length-set, length-keep}
 use Rattle.rows.specs.Rows.{Rows, Sorted, setRow, removeRow, keep, hasKey}
-use Rattle.server_plan.specs.Calls.{Call as ServerCall}
-use Rattle.server_plan.specs.Refusals.{update}
+use Rattle.server_calls.specs.Calls.{Call as ServerCall}
+use Rattle.server_calls.specs.Refusals.{update}
 use Rattle.joining.proofs.ClientLaws.{afterUpdate}
 use Rattle.joining.proofs.HistoryLaws.{first, latest, latest-max, map-sorted, map-count, Step, step-of}
 use Rattle.joining.proofs.PublicationLaws.{update-passes, update-head, update-not-hugz, update-number, update-value, update-kvpub}
@@ -35,16 +35,17 @@ use Rattle.joining.specs.Joining.{highest, atLeast, Follows}
 use Rattle.base.specs.Logs.Log.{_▷_}
 use Rattle.base.specs.Logs.{Log, Among}
 use Rattle.joining.specs.Readings.{numberOf, kvpubNumber}
+use Rattle.row_cells.specs.Sizes.{maxRows}
 
 -- ---- an update, cut to a part
-keep-in : (test : Bytes → Bool) (k x : Bytes) (l : Rows Bytes) → test k ≡ true → Sorted l → keep test (updated k x l) ≡ updated k x (keep test l)
+keep-in : (test : Bytes → Bool) (k x : Bytes) (l : Rows Bytes) → test k ≡ true → Sorted l → keep test (rowsAfter k x l) ≡ rowsAfter k x (keep test l)
 keep-in test k x l e s = go (isNil x)
   where
     go : (b : Bool) → keep test (cond b (removeRow k l) (setRow k x l)) ≡ cond b (removeRow k (keep test l)) (setRow k x (keep test l))
     go true = keep-remove-in test k l s
     go false = keep-set-in test k x l e s
 
-keep-out : (test : Bytes → Bool) (k x : Bytes) (l : Rows Bytes) → test k ≡ false → keep test (updated k x l) ≡ keep test l
+keep-out : (test : Bytes → Bool) (k x : Bytes) (l : Rows Bytes) → test k ≡ false → keep test (rowsAfter k x l) ≡ keep test l
 keep-out test k x l e = go (isNil x)
   where
     go : (b : Bool) → keep test (cond b (removeRow k l) (setRow k x l)) ≡ keep test l
@@ -87,16 +88,16 @@ module _ (p : ServerStart) (S : Log ServerCall) where
         (λ (i : ℕ) (g : Fields) (a : Step p S i g) (b : Among (update (suc i) g) (published p S)) (x : v .number ≤ i) (y : i < n). c i g a b x (omega arith))
         ∙ sym e
 
-    inside : test (f .head) ≡ true → updated (f .head) (f .value) (v .rows) ≡ keep test (mapAt p S (suc n))
+    inside : test (f .head) ≡ true → rowsAfter (f .head) (f .value) (v .rows) ≡ keep test (mapAt p S (suc n))
     inside g =
-        ap (updated (f .head) (f .value)) (sym before)
+        ap (rowsAfter (f .head) (f .value)) (sym before)
         ∙ (sym (keep-in test (f .head) (f .value) (mapAt p S n) g (map-sorted p S n)) ∙ ap (keep test) (sym (l .makes)))
 
     outside-it : test (f .head) ≡ false → v .rows ≡ keep test (mapAt p S (suc n))
     outside-it g = sym before ∙ (sym (keep-out test (f .head) (f .value) (mapAt p S n) g) ∙ ap (keep test) (sym (l .makes)))
 
     -- the client has room for it: its map is a part of the server's
-    never-full : test (f .head) ≡ true → (not (isNil (f .value)) && (not (hasKey (f .head) (v .rows)) && leb 64 (length (v .rows)))) ≡ false
+    never-full : test (f .head) ≡ true → (not (isNil (f .value)) && (not (hasKey (f .head) (v .rows)) && leb maxRows (length (v .rows)))) ≡ false
     never-full g = go (isNil (f .value)) (hasKey (f .head) (v .rows)) refl (inside g)
       where
         sorted : Sorted (v .rows)
@@ -106,13 +107,13 @@ module _ (p : ServerStart) (S : Log ServerCall) where
         few = omega (arith, length-keep test (mapAt p S (suc n)), map-count p S (suc n))
 
         go : (b d : Bool) → hasKey (f .head) (v .rows) ≡ d → cond b (removeRow (f .head) (v .rows)) (setRow (f .head) (f .value) (v .rows)) ≡ keep test (mapAt p S (suc n))
-            → (not b && (not d && leb 64 (length (v .rows)))) ≡ false
+            → (not b && (not d && leb maxRows (length (v .rows)))) ≡ false
         go true d a i = refl
         go false true a i = refl
         go false false a i =
             let s : length (setRow (f .head) (f .value) (v .rows)) ≡ suc (length (v .rows)) =
             length-set (f .head) (f .value) (v .rows) sorted ∙ ap (λ (x : Bool). cond x (length (v .rows)) (suc (length (v .rows)))) a in
-            lt-leb 64 (length (v .rows)) (omega (arith, s, ap length i, few))
+            lt-leb maxRows (length (v .rows)) (omega (arith, s, ap length i, few))
 
   -- ---- a client that follows takes a KVPUB of the server
   module _ (v : Replica) (m : ℕ) (since : Log Bytes) (low : first p ≤ m) (F : Follows p S v m since) (n : ℕ) (f : Fields) (l : Step p S n f)
@@ -175,11 +176,11 @@ module _ (p : ServerStart) (S : Log ServerCall) where
             }
 
     -- it has room for it
-    fits : overfills (λ (k : Bytes). hasKey k (v .rows)) (length (v .rows)) (updateEffect (v .number) (v .subtree) (fieldsOf msg)) ≡ false
+    fits : overfilledBy (λ (k : Bytes). hasKey k (v .rows)) (length (v .rows)) (updateEffect (v .number) (v .subtree) (fieldsOf msg)) ≡ false
     fits = go (leb (number (frameAt 1 msg)) (v .number)) (under (v .subtree) (frameAt 0 msg)) refl refl
       where
         go : (old near : Bool) → leb (number (frameAt 1 msg)) (v .number) ≡ old → under (v .subtree) (frameAt 0 msg) ≡ near
-            → overfills (λ (k : Bytes). hasKey k (v .rows)) (length (v .rows))
+            → overfilledBy (λ (k : Bytes). hasKey k (v .rows)) (length (v .rows))
             (cond old stale (cond near (apply (number (frameAt 1 msg)) (frameAt 0 msg) (frameAt 4 msg)) (outside (number (frameAt 1 msg))))) ≡ false
         go true near a b = refl
         go false false a b = refl

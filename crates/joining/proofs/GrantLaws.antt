@@ -15,25 +15,25 @@ use Rattle.base.specs.Checks.{firstOf}
 use Rattle.cells.specs.Cells.{All}
 use Rattle.frames.specs.Messages.{frameAt}
 use Rattle.messages.specs.Fields.{icanhaz as question, withIdentity}
-use Rattle.names.specs.Keys.{isSubtree, under}
-use Rattle.names.specs.Lengths.{isIdentity}
+use Rattle.keys.specs.Keys.{isSubtree, under}
+use Rattle.frame_forms.specs.Lengths.{isIdentity}
 use Rattle.ports.specs.Ports.{icanhazPort}
 use Rattle.round_trip.proofs.RoundTripProof.{requested}
 use Rattle.round_trip.proofs.RowsLaws.{Proper}
 use Rattle.rows.proofs.RowLaws.{length-keep, map-length, map-map}
 use Rattle.rows.specs.Rows.{Rows, keep, mapRows}
-use Rattle.server_plan.specs.Calls.Call.{icanhaz}
-use Rattle.server_plan.specs.Refusals.{valueLength, snapshotChecks, callChecks as serverChecks}
-use Rattle.server_state.proofs.SnapshotLaws.{Kept, snapshot-length, snapshot-most}
-use Rattle.server_state.specs.Snapshots.{snapshotLength}
+use Rattle.server_calls.specs.Calls.Call.{icanhaz}
+use Rattle.server_calls.specs.Refusals.{heldLength, roomChecks, callChecks as serverChecks}
+use Rattle.server_calls.proofs.SnapshotLaws.{Kept, snapshot-length, snapshot-most}
+use Rattle.server_calls.specs.Snapshots.{snapshotLength}
 use Rattle.server_state.specs.Views.{Entry, Ledger, plain, ledgerOf}
 use Rattle.joining.proofs.BookLaws.{Sound}
 use Rattle.joining.proofs.SnapshotLaws.{sound-rows}
 use Rattle.joining.specs.Book.{bookRefusal}
 
-held-lengths : (l : Rows Entry) → mapRows valueLength (mapRows plain l) ≡ mapRows (λ (e : Entry). length (e .value)) l
+held-lengths : (l : Rows Entry) → mapRows heldLength (mapRows plain l) ≡ mapRows (λ (e : Entry). length (e .value)) l
 unfolding plain
-held-lengths l = map-map plain valueLength l
+held-lengths l = map-map plain heldLength l
 
 kept : (l : Rows Entry) → All Proper l → All Kept l
 kept [] h = tt
@@ -45,7 +45,7 @@ module _ (v : Ledger Entry) (s : Sound (ledgerOf v)) where
   count = omega (arith, map-length plain (v .rows), s .count)
 
   module _ (identity subtree : Bytes) (i : isIdentity identity ≡ true) (u : isSubtree subtree ≡ true) where
-    enough : snapshotLength (length identity) subtree (mapRows valueLength (ledgerOf v .rows)) ≤ 40953
+    enough : snapshotLength (length identity) subtree (mapRows heldLength (ledgerOf v .rows)) ≤ 40953
     unfolding ledgerOf
     enough =
         let few : length (keep (under subtree) (v .rows)) ≤ 64 = omega (arith, length-keep (under subtree) (v .rows), count) in
@@ -67,5 +67,5 @@ module _ (v : Ledger Entry) (s : Sound (ledgerOf v)) where
     pub request-granted : bookRefusal (ledgerOf v) (icanhaz msg 40953) ≡ none
     unfolding bookRefusal serverChecks firstOf
     request-granted =
-        pass-all (icanhazPort msg) (snapshotChecks (mapRows valueLength (ledgerOf v .rows)) (frameAt 0 msg) (frameAt 2 msg) 40953) (requested identity subtree i u .passes)
-        ∙ rw (identity-frame, subtree-frame, le-ltb 40953 (snapshotLength (length identity) subtree (mapRows valueLength (ledgerOf v .rows))) enough)
+        pass-all (icanhazPort msg) (roomChecks (mapRows heldLength (ledgerOf v .rows)) (frameAt 0 msg) (frameAt 2 msg) 40953) (requested identity subtree i u .passes)
+        ∙ rw (identity-frame, subtree-frame, le-ltb 40953 (snapshotLength (length identity) subtree (mapRows heldLength (ledgerOf v .rows))) enough)

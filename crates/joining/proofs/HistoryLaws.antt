@@ -10,13 +10,13 @@ use lib.Dec.{leb}
 use lib.ListN.{length}
 use borrow.Author.Tests.{lt-ltb, le-ltb, le-leb, lt-leb}
 use Rattle.base.specs.Bytes.{Bytes}
-use Rattle.client_plan.specs.Next.{updated}
+use Rattle.client_calls.specs.Next.{rowsAfter}
 use Rattle.messages.specs.Fields.{Fields, bytesOf, hugz}
-use Rattle.names.specs.Numbers.{maxSequence}
+use Rattle.numbers.specs.Sequences.{maxSequence}
 use Rattle.rows.proofs.RowLaws.{map-length, sorted-map}
 use Rattle.rows.specs.Rows.{Rows, Sorted}
-use Rattle.server_plan.specs.Calls.{Call}
-use Rattle.server_plan.specs.Refusals.{update}
+use Rattle.server_calls.specs.Calls.{Call}
+use Rattle.server_calls.specs.Refusals.{update}
 use Rattle.joining.proofs.BookLaws.{sound}
 use Rattle.joining.proofs.LogLaws.{among-add, add-cases, among-new}
 use Rattle.joining.proofs.PublicationLaws.{GoodUpdate, update-kvpub, hugz-number}
@@ -81,7 +81,7 @@ map-now p (S ▷ x) = go (book-move p S x) (map-now p S)
 pub one-map : (p : ServerStart) (S D : Log Call) → mapAt p (S ⧺ D) (latest p S) ≡ mapOf (bookAfter p S)
 one-map p S D = map-kept p S D (latest p S) (omega arith) ∙ map-now p S
 
--- in key order, and of at most 64 rows
+-- in key order, and of at most as many rows as there is room for
 abbrev Tidy : Rows Bytes → Type 0
 Tidy l = Sorted l × (length l ≤ 64)
 
@@ -111,24 +111,24 @@ pub record Step (p : ServerStart) (S : Log Call) (n : ℕ) (f : Fields) : Type 0
   pub good : GoodUpdate f
   pub above : first p ≤ n
   pub below : n < latest p S
-  pub makes : mapAt p S (suc n) ≡ updated (f .head) (f .value) (mapAt p S n)
+  pub makes : mapAt p S (suc n) ≡ rowsAfter (f .head) (f .value) (mapAt p S n)
 
 step-stays : (p : ServerStart) (S : Log Call) (x : Call) (n : ℕ) (f : Fields) → Step p S n f → Step p (S ▷ x) n f
 step-stays p S x n f l = record {
   good = l .good;
   above = l .above;
   below = omega (arith, l .below, latest-rises p S x);
-  makes = map-stays p S x (suc n) (l .below) ∙ (l .makes ∙ ap (updated (f .head) (f .value)) (sym (map-stays p S x n (omega (arith, l .below)))));
+  makes = map-stays p S x (suc n) (l .below) ∙ (l .makes ∙ ap (rowsAfter (f .head) (f .value)) (sym (map-stays p S x n (omega (arith, l .below)))));
 }
 
 new-step : (p : ServerStart) (S : Log Call) (x : Call) (f : Fields) → GoodUpdate f → latest p (S ▷ x) ≡ suc (latest p S)
-    → mapOf (bookAfter p (S ▷ x)) ≡ updated (f .head) (f .value) (mapOf (bookAfter p S)) → Step p (S ▷ x) (latest p S) f
+    → mapOf (bookAfter p (S ▷ x)) ≡ rowsAfter (f .head) (f .value) (mapOf (bookAfter p S)) → Step p (S ▷ x) (latest p S) f
 new-step p S x f g e k = record {
   good = g;
   above = first-latest p S;
   below = omega arith;
   makes = ap (λ (n : ℕ). mapAt p (S ▷ x) n) (sym e)
-      ∙ (map-now p (S ▷ x) ∙ (k ∙ ap (updated (f .head) (f .value)) (sym (map-stays p S x (latest p S) (omega arith) ∙ map-now p S))));
+      ∙ (map-now p (S ▷ x) ∙ (k ∙ ap (rowsAfter (f .head) (f .value)) (sym (map-stays p S x (latest p S) (omega arith) ∙ map-now p S))));
 }
 
 -- each number above the first has its KVPUB

@@ -7,20 +7,20 @@ use mathlib.Core.Logic.{inl, inr}
 use mathlib.Core.Option.{Option, none, some, Option·none-ne-some}
 use mathlib.Core.Path.{_≡_, refl, sym, ap, _∙_}
 use Rattle.base.specs.Bytes.{Bytes, same}
-use Rattle.client_plan.specs.Calls.{Call as ClientCall}
-use Rattle.client_plan.specs.Effects.Effect.{finish}
-use Rattle.client_plan.specs.Next.{effectNext}
+use Rattle.client_calls.specs.Calls.{Call as ClientCall}
+use Rattle.client_calls.specs.Effects.Effect.{finish}
+use Rattle.client_calls.specs.Next.{effectNext}
 use Rattle.client_state.specs.Views.{Replica}
 use Rattle.frames.specs.Messages.{frameAt}
 use Rattle.messages.specs.Fields.{Fields, bytesOf, kthxbai}
-use Rattle.names.specs.Keys.{under}
-use Rattle.names.specs.Numbers.{maxSequence}
-use Rattle.names.specs.Words.{wordKthxbai}
+use Rattle.keys.specs.Keys.{under}
+use Rattle.numbers.specs.Sequences.{maxSequence}
+use Rattle.frame_forms.specs.Words.{wordKthxbai}
 use Rattle.rows.proofs.RowLaws.{setAll, set-all-nil, sorted-keep, keep-map, map-map}
 use Rattle.rows.specs.Rows.{keep, mapRows}
-use Rattle.server_plan.specs.Calls.Call.{icanhaz}
-use Rattle.server_plan.specs.Calls.{Call as ServerCall}
-use Rattle.server_plan.specs.Refusals.{update}
+use Rattle.server_calls.specs.Calls.Call.{icanhaz}
+use Rattle.server_calls.specs.Calls.{Call as ServerCall}
+use Rattle.server_calls.specs.Refusals.{update}
 use Rattle.server_state.specs.Views.{plain, ledgerOf}
 use Rattle.joining.proofs.ClientLaws.Take.{idle, synced, ended, alive, moved}
 use Rattle.joining.proofs.ClientLaws.{Take, take, idle-of, heard-number}

@@ -7,14 +7,14 @@ use mathlib.Core.Option.{none}
 use mathlib.Core.Path.{_≡_, refl, sym, ap, ap₂, subst, _∙_}
 use Rattle.base.proofs.ByteLaws.{prefix-trans}
 use Rattle.base.specs.Bytes.{Bytes}
-use Rattle.client_plan.specs.Calls.Call.{subscriber}
-use Rattle.client_plan.specs.Calls.{Call as ClientCall}
+use Rattle.client_calls.specs.Calls.Call.{subscriber}
+use Rattle.client_calls.specs.Calls.{Call as ClientCall}
 use Rattle.client_state.specs.Views.{Replica}
 use Rattle.messages.specs.Fields.{Fields}
-use Rattle.names.specs.Keys.{under}
+use Rattle.keys.specs.Keys.{under}
 use Rattle.rows.proofs.RowLaws.{held-keep, keep-keep}
 use Rattle.rows.specs.Rows.{keep, heldUnder}
-use Rattle.server_plan.specs.Calls.{Call as ServerCall}
+use Rattle.server_calls.specs.Calls.{Call as ServerCall}
 use Rattle.joining.proofs.ClientLaws.{again}
 use Rattle.joining.proofs.FollowLaws.{refuses-none}
 use Rattle.joining.proofs.HistoryLaws.{first-latest, latest-max, one-map, Step, IsStep, published-steps, rises-published}

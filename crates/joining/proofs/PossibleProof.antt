@@ -8,18 +8,19 @@ use mathlib.Core.Path.{_≡_, sym, ap, subst, _∙_}
 use Rattle.answers.specs.Refusals.{ifAccepted}
 use Rattle.answers.specs.declared.refusal.Refusal.{Refusal}
 use Rattle.base.specs.Bytes.{Bytes}
-use Rattle.client_plan.specs.Calls.Call.{snapshot, subscriber}
-use Rattle.client_plan.specs.Calls.{Call as ClientCall}
-use Rattle.client_plan.specs.Next.{acceptedNext}
+use Rattle.client_calls.specs.Calls.Call.{snapshot, subscriber}
+use Rattle.client_calls.specs.Calls.{Call as ClientCall}
+use Rattle.client_calls.specs.Next.{acceptedNext}
 use Rattle.client_state.specs.Views.{Replica}
 use Rattle.frames.specs.Messages.{frameAt}
 use Rattle.messages.specs.Fields.{Fields}
-use Rattle.names.specs.Keys.{isSubtree}
-use Rattle.names.specs.Lengths.{isIdentity}
-use Rattle.names.specs.Numbers.{maxSequence, maxTick}
-use Rattle.server_plan.specs.Calls.Call.{icanhaz}
-use Rattle.server_plan.specs.Calls.{Call as ServerCall}
-use Rattle.server_plan.specs.Refusals.{update}
+use Rattle.keys.specs.Keys.{isSubtree}
+use Rattle.frame_forms.specs.Lengths.{isIdentity}
+use Rattle.numbers.specs.Sequences.{maxSequence}
+use Rattle.numbers.specs.Ticks.{maxTick}
+use Rattle.server_calls.specs.Calls.Call.{icanhaz}
+use Rattle.server_calls.specs.Calls.{Call as ServerCall}
+use Rattle.server_calls.specs.Refusals.{update}
 use Rattle.joining.proofs.ClientLaws.{update-max}
 use Rattle.joining.proofs.GrantLaws.{request-granted}
 use Rattle.joining.proofs.HistoryLaws.{latest, first-latest, latest-max, Step, step-of}

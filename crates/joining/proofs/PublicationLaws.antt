@@ -12,13 +12,13 @@ use Rattle.base.specs.Bytes.{Bytes, same}
 use Rattle.base.specs.Checks.{firstOf}
 use Rattle.frames.specs.Messages.{encode, frame, frameAt, partsOf}
 use Rattle.messages.specs.Fields.{Fields, bytesOf, fieldsOf, kvpub, hugz}
-use Rattle.names.specs.Keys.{isKey}
-use Rattle.names.specs.Numbers.{maxSequence}
-use Rattle.names.specs.Words.{wordHugz}
+use Rattle.keys.specs.Keys.{isKey}
+use Rattle.numbers.specs.Sequences.{maxSequence}
+use Rattle.frame_forms.specs.Words.{wordHugz}
 use Rattle.ports.specs.Ports.{framed, payloadChecks, publishedChecks, subscriberPort}
 use Rattle.round_trip.proofs.ArrivalLaws.{not-hugz, kvpub-arrives, hugz-arrives}
 use Rattle.round_trip.specs.RoundTrip.{Numbered}
-use Rattle.server_plan.specs.Refusals.{update}
+use Rattle.server_calls.specs.Refusals.{update}
 use Rattle.joining.specs.Ends.{message}
 use Rattle.joining.specs.Readings.{isKvpub, keyOf, numberOf, kvpubNumber}
 

@@ -9,21 +9,21 @@ use Rattle.answers.specs.Refusals.{ifAccepted}
 use Rattle.answers.specs.declared.refusal.Refusal.{Refusal}
 use Rattle.base.specs.Bytes.{Bytes, isNil}
 use Rattle.base.specs.Checks.{firstOf}
-use Rattle.client_plan.specs.Next.{updated}
+use Rattle.client_calls.specs.Next.{rowsAfter}
 use Rattle.messages.specs.Fields.{Fields, bytesOf, fields, fieldsOf, hugz}
-use Rattle.names.specs.Numbers.{maxSequence}
+use Rattle.numbers.specs.Sequences.{maxSequence}
 use Rattle.properties.specs.Properties.{propertiesOf}
 use Rattle.round_trip.proofs.RoundTripProof.{nothing-more}
 use Rattle.rows.proofs.RowLaws.{set-remove, map-set, map-remove}
 use Rattle.rows.specs.Rows.{Rows, setRow, removeRow, mapRows}
-use Rattle.server.specs.Start.{startRefusal, startOf, emptyAt}
-use Rattle.server_plan.specs.Calls.Call.{kvset, tick, icanhaz}
-use Rattle.server_plan.specs.Calls.{Call}
-use Rattle.server_plan.specs.Deeds.Deed.{expire, beat, quiet}
-use Rattle.server_plan.specs.Deeds.{Deed, deed}
-use Rattle.server_plan.specs.Next.{expiryAt, kvsetNext, tickNext, acceptedNext}
-use Rattle.server_plan.specs.Output.{tickBytes, acceptedBytes}
-use Rattle.server_plan.specs.Refusals.{update, expiry, deedChecks}
+use Rattle.server_calls.specs.Start.{startRefusal, startOf, emptyAt}
+use Rattle.server_calls.specs.Calls.Call.{kvset, tick, icanhaz}
+use Rattle.server_calls.specs.Calls.{Call}
+use Rattle.server_calls.specs.Deeds.Deed.{expire, beat, quiet}
+use Rattle.server_calls.specs.Deeds.{Deed, deed}
+use Rattle.server_calls.specs.Next.{entryFor, expiryAt, kvsetNext, tickNext, acceptedNext}
+use Rattle.server_calls.specs.Output.{tickBytes, acceptedBytes}
+use Rattle.server_calls.specs.Refusals.{update, expiry, deedChecks}
 use Rattle.server_state.specs.Views.{Held, Entry, Ledger, plain, ledgerOf}
 use Rattle.joining.proofs.BookLaws.{Sound, sound, update-good, kvset-below, deed-passed, expiry-below, deed-key}
 use Rattle.joining.proofs.PublicationLaws.{GoodUpdate, update-written, hugz-written}
@@ -39,7 +39,7 @@ unfolding ledgerOf kvsetNext bookKvset plain
 ledger-kvset v f t s = go (isNil (f .value))
   where
     entry : Entry
-    entry = record { value = f .value; expiry = expiryAt t (propertiesOf (f .properties)); number = suc (v .number) }
+    entry = entryFor f t (suc (v .number))
 
     rows : Rows Held
     rows = mapRows plain (v .rows)
@@ -99,10 +99,10 @@ pub data Move (b b′ : Book) (w : Option Bytes) : Type 0 where
   -- number and map stay, and no KVPUB is published
   stays : b′ .number ≡ b .number → mapOf b′ ≡ mapOf b → (w ≡ none) ⊎ (w ≡ some (bytesOf hugz)) → Move b b′ w
   -- the number rises by one, and the KVPUB with the new number carries what changes
-  steps : (f : Fields) → GoodUpdate f → b .number < maxSequence → b′ .number ≡ suc (b .number) → mapOf b′ ≡ updated (f .head) (f .value) (mapOf b)
+  steps : (f : Fields) → GoodUpdate f → b .number < maxSequence → b′ .number ≡ suc (b .number) → mapOf b′ ≡ rowsAfter (f .head) (f .value) (mapOf b)
       → w ≡ some (update (suc (b .number)) f) → Move b b′ w
 
-map-kvset : (b : Book) (f : Fields) (t : ℕ) → Sound b → mapOf (bookKvset b f t) ≡ updated (f .head) (f .value) (mapOf b)
+map-kvset : (b : Book) (f : Fields) (t : ℕ) → Sound b → mapOf (bookKvset b f t) ≡ rowsAfter (f .head) (f .value) (mapOf b)
 unfolding bookKvset mapOf valueOf
 map-kvset b f t s = go (isNil (f .value))
   where

@@ -14,27 +14,27 @@ use Rattle.base.specs.Bytes.{Bytes, same}
 use Rattle.base.specs.Checks.{firstOf}
 use Rattle.base.specs.Octets.{number}
 use Rattle.cells.specs.Cells.{All}
-use Rattle.client.specs.Start.{startRefusal, waitingAt, startOf}
-use Rattle.client_plan.specs.Calls.{Call as ClientCall}
-use Rattle.client_plan.specs.Next.{effectNext}
+use Rattle.client_calls.specs.Start.{startRefusal, waitingAt, startOf}
+use Rattle.client_calls.specs.Calls.{Call as ClientCall}
+use Rattle.client_calls.specs.Next.{effectNext}
 use Rattle.client_state.specs.Views.{Replica}
 use Rattle.messages.proofs.RoundTrip.{fields-back, identity-off}
 use Rattle.frames.specs.Messages.{frameAt}
 use Rattle.messages.specs.Fields.{Fields, bytesOf, fieldsOf, kvsync, kthxbai, withIdentity, withoutIdentity}
-use Rattle.names.specs.Keys.{isSubtree, under}
-use Rattle.names.specs.Lengths.{isIdentity}
-use Rattle.names.specs.Numbers.{maxSequence}
-use Rattle.names.specs.Words.{wordKthxbai}
+use Rattle.keys.specs.Keys.{isSubtree, under}
+use Rattle.frame_forms.specs.Lengths.{isIdentity}
+use Rattle.numbers.specs.Sequences.{maxSequence}
+use Rattle.frame_forms.specs.Words.{wordKthxbai}
 use Rattle.ports.specs.Ports.{framed, icanhazChecks, icanhazPort}
 use Rattle.round_trip.proofs.ArrivalLaws.{not-kthxbai, sync-sizes, end-sizes}
 use Rattle.round_trip.proofs.RoundTripProof.{identity-short, snapshot-arrives}
 use Rattle.round_trip.proofs.RowsLaws.{Proper, keep-all}
 use Rattle.rows.proofs.RowLaws.{setAll}
 use Rattle.rows.specs.Rows.{Rows, setRow, keep, mapRows}
-use Rattle.server_plan.specs.Calls.Call.{icanhaz}
-use Rattle.server_plan.specs.Output.{acceptedBytes}
-use Rattle.server_plan.specs.Refusals.{snapshotChecks, valueLength, callChecks}
-use Rattle.server_state.specs.Snapshots.{sync as syncFor, thanks}
+use Rattle.server_calls.specs.Calls.Call.{icanhaz}
+use Rattle.server_calls.specs.Output.{acceptedBytes}
+use Rattle.server_calls.specs.Refusals.{roomChecks, heldLength, callChecks}
+use Rattle.server_calls.specs.Snapshots.{sync as syncFor, thanks}
 use Rattle.server_state.specs.Views.{Entry, Ledger, plain, ledgerOf}
 use Rattle.joining.proofs.BookLaws.{Fit, Sound}
 use Rattle.joining.proofs.ClientLaws.Take.{idle, synced, ended, alive, moved}
@@ -88,7 +88,7 @@ module _ (b : Book) (msg : Bytes) (room : ℕ) (e : bookRefusal b (icanhaz msg r
   asks : firstOf (icanhazChecks (frameAt 0 msg) (frameAt 1 msg) (frameAt 2 msg)) ≡ none
   unfolding bookRefusal callChecks
   asks =
-      let port = both-passed (icanhazPort msg) (snapshotChecks (mapRows valueLength (b .rows)) (frameAt 0 msg) (frameAt 2 msg) room) e .0 in
+      let port = both-passed (icanhazPort msg) (roomChecks (mapRows heldLength (b .rows)) (frameAt 0 msg) (frameAt 2 msg) room) e .0 in
       both-passed (framed 3 msg) (icanhazChecks (frameAt 0 msg) (frameAt 1 msg) (frameAt 2 msg)) port .1
 
   granted-identity : isIdentity (frameAt 0 msg) ≡ true

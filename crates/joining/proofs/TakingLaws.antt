@@ -10,21 +10,22 @@ use borrow.Author.Tests.{le-leb, lt-leb}
 use Rattle.base.proofs.CheckLaws.{pass-all}
 use Rattle.base.specs.Bytes.{Bytes, same}
 use Rattle.base.specs.Checks.{firstOf}
-use Rattle.client.specs.Start.{startRefusal, startOf}
-use Rattle.client_plan.specs.Calls.Call.{snapshot}
-use Rattle.client_plan.specs.Calls.{Call as ClientCall}
-use Rattle.client_plan.specs.Effects.Effect.{sync}
-use Rattle.client_plan.specs.Next.{effectNext, acceptedNext}
-use Rattle.client_plan.specs.Refusals.{callChecks as clientChecks}
+use Rattle.client_calls.specs.Start.{startRefusal, startOf}
+use Rattle.client_calls.specs.Calls.Call.{snapshot}
+use Rattle.client_calls.specs.Calls.{Call as ClientCall}
+use Rattle.client_calls.specs.Effects.Effect.{sync}
+use Rattle.client_calls.specs.Next.{effectNext, acceptedNext}
+use Rattle.client_calls.specs.Refusals.{callChecks as clientChecks}
 use Rattle.client_state.specs.Views.{Replica}
 use Rattle.frames.specs.Messages.{frameAt}
 use Rattle.messages.specs.Fields.{Fields}
-use Rattle.names.specs.Keys.{isSubtree, under}
-use Rattle.names.specs.Numbers.{maxSequence, maxTick}
-use Rattle.names.specs.Order.{orderOf}
-use Rattle.names.specs.Words.{wordKthxbai}
-use Rattle.names.specs.declared.order.Order.the-variants.{Less, Equal, Greater}
-use Rattle.names.specs.declared.order.Order.{Order}
+use Rattle.keys.specs.Keys.{isSubtree, under}
+use Rattle.numbers.specs.Sequences.{maxSequence}
+use Rattle.numbers.specs.Ticks.{maxTick}
+use Rattle.key_order.specs.Order.{orderOf}
+use Rattle.frame_forms.specs.Words.{wordKthxbai}
+use Rattle.key_order.specs.declared.Order.the-variants.{Less, Equal, Greater}
+use Rattle.key_order.specs.declared.Order.{Order}
 use Rattle.ports.specs.Ports.{snapshotPort}
 use Rattle.round_trip.proofs.ArrivalLaws.{not-kthxbai, kvsync-arrives, kthxbai-arrives}
 use Rattle.round_trip.proofs.RowsLaws.{Proper}
@@ -40,6 +41,7 @@ use Rattle.joining.specs.Ends.{ClientStart, clientStart, clientRefusal, 
 use Rattle.base.specs.Logs.Log.{empty, _▷_}
 use Rattle.base.specs.Logs.{Log}
 use Rattle.joining.specs.Possible.{handedIn}
+use Rattle.row_cells.specs.Sizes.{maxRows}
 
 length-put : (k a : Bytes) (l : Rows Bytes) → length (setRow k a l) ≤ suc (length l)
 unfolding setRow
@@ -54,7 +56,7 @@ length-put k a (r ∷ l) = go (orderOf k (r .0)) (length-put k a l)
 -- ---- one message of it
 module _ (v : Replica) (w : v .live ≡ false) where
   -- a row under the client's subtree, where there is room
-  module _ (r : Bytes × Entry) (p : Proper r) (u : under (v .subtree) (r .0) ≡ true) (room : length (v .rows) < 64) where
+  module _ (r : Bytes × Entry) (p : Proper r) (u : under (v .subtree) (r .0) ≡ true) (room : length (v .rows) < maxRows) where
     row-head : frameAt 0 (syncOf r) ≡ r .0
     row-head = ap (λ (f : Fields). f .head) (sync-fields r p)
 
@@ -65,7 +67,7 @@ module _ (v : Replica) (w : v .live ≡ false) where
     unfolding clientRefusal clientChecks firstOf
     row-passes =
         pass-all (snapshotPort (v .subtree) (syncOf r)) _ (kvsync-arrives (v .subtree) (r .0) (r .1 .value) (r .1 .number) (p .0) u (p .1 .0) (p .1 .1) .passes)
-        ∙ rw (w, row-word, lt-leb 64 (length (v .rows)) room, and-false)
+        ∙ rw (w, row-word, lt-leb maxRows (length (v .rows)) room, and-false)
 
     row-next : clientNext v (snapshot (syncOf r)) ≡ effectNext v (sync (frameAt 0 (syncOf r)) (frameAt 4 (syncOf r)))
     unfolding clientNext acceptedNext
@@ -105,7 +107,7 @@ module _ (subtree : Bytes) (q : ClientStart) (begins : Waits (clientStart q) sub
       go i =
           let w = i .1 in
           let u : under (v .subtree) (r .0) ≡ true = ap (λ (t : Bytes). under t (r .0)) (w .1 .0) ∙ h .1 .1 in
-          let room : length (v .rows) < 64 = omega (arith, w .1 .1) in (
+          let room : length (v .rows) < maxRows = omega (arith, w .1 .1) in (
             accepted-next q C (syncOf r) (row-passes v (w .0) r (h .1 .0) u room) ∙ ap (λ (a : Log Bytes). a ▷ syncOf r) (i .0),
             subst (λ (v′ : Replica). Waits v′ subtree (suc (size rs))) (sym (row-next v (w .0) r (h .1 .0) u room))
                 (w .0, (w .1 .0, omega (arith, length-put (frameAt 0 (syncOf r)) (frameAt 4 (syncOf r)) (v .rows), w .1 .1))),

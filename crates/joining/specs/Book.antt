@@ -11,13 +11,13 @@ use Rattle.base.specs.Checks.{firstOf}
 use Rattle.messages.specs.Fields.{Fields, fieldsOf}
 use Rattle.properties.specs.Properties.{propertiesOf}
 use Rattle.rows.specs.Rows.{Rows, setRow, removeRow, mapRows}
-use Rattle.server.specs.Start.{startRefusal}
-use Rattle.server_plan.specs.Calls.Call.{kvset, tick, icanhaz}
-use Rattle.server_plan.specs.Calls.{Call}
-use Rattle.server_plan.specs.Deeds.Deed.{expire, beat, quiet}
-use Rattle.server_plan.specs.Deeds.{Deed, deed}
-use Rattle.server_plan.specs.Next.{expiryAt}
-use Rattle.server_plan.specs.Refusals.{callChecks}
+use Rattle.server_calls.specs.Start.{startRefusal}
+use Rattle.server_calls.specs.Calls.Call.{kvset, tick, icanhaz}
+use Rattle.server_calls.specs.Calls.{Call}
+use Rattle.server_calls.specs.Deeds.Deed.{expire, beat, quiet}
+use Rattle.server_calls.specs.Deeds.{Deed, deed}
+use Rattle.server_calls.specs.Next.{expiryAt}
+use Rattle.server_calls.specs.Refusals.{callChecks}
 use Rattle.server_state.specs.Views.{Held, Ledger}
 use Rattle.base.specs.Logs.Log.{empty, _▷_}
 use Rattle.base.specs.Logs.{Log, add}

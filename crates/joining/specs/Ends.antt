@@ -9,24 +9,24 @@ use Rattle.answers.specs.declared.answer.Answer.{Answer}
 use Rattle.answers.specs.declared.refusal.Refusal.{Refusal}
 use Rattle.base.specs.Bytes.{Bytes}
 use Rattle.base.specs.Checks.{firstOf}
-use Rattle.client.specs.Start.{startOf as waiting}
-use Rattle.client_plan.specs.Answers.{acceptedKind as clientKind}
-use Rattle.client_plan.specs.Calls.Call.{snapshot, subscriber, writeIcanhaz, writeKvset, ask, lookup}
-use Rattle.client_plan.specs.Calls.{Call as ClientCall}
-use Rattle.client_plan.specs.Next.{acceptedNext as clientBecomes}
-use Rattle.client_plan.specs.Output.{acceptedBytes as clientWrites}
-use Rattle.client_plan.specs.Refusals.{callChecks as clientChecks}
+use Rattle.client_calls.specs.Start.{startOf as waiting}
+use Rattle.client_calls.specs.Answers.{acceptedKind as clientKind}
+use Rattle.client_calls.specs.Calls.Call.{snapshot, subscriber, writeIcanhaz, writeKvset, ask, lookup}
+use Rattle.client_calls.specs.Calls.{Call as ClientCall}
+use Rattle.client_calls.specs.Next.{acceptedNext as clientBecomes}
+use Rattle.client_calls.specs.Output.{acceptedBytes as clientWrites}
+use Rattle.client_calls.specs.Refusals.{callChecks as clientChecks}
 use Rattle.client_state.specs.Views.{Replica}
 use Rattle.frames.specs.Runs.{messagesIn}
 use Rattle.messages.specs.Fields.{withoutIdentity}
-use Rattle.names.specs.Numbers.{sequence}
-use Rattle.server.specs.Start.{startOf as begun}
-use Rattle.server_plan.specs.Answers.{acceptedKind as serverKind}
-use Rattle.server_plan.specs.Calls.Call.{kvset, tick, icanhaz}
-use Rattle.server_plan.specs.Calls.{Call as ServerCall}
-use Rattle.server_plan.specs.Next.{acceptedNext as serverBecomes}
-use Rattle.server_plan.specs.Output.{acceptedBytes as serverWrites}
-use Rattle.server_plan.specs.Refusals.{callChecks as serverChecks}
+use Rattle.numbers.specs.Sequences.{sequence}
+use Rattle.server_calls.specs.Start.{startOf as begun}
+use Rattle.server_calls.specs.Answers.{acceptedKind as serverKind}
+use Rattle.server_calls.specs.Calls.Call.{kvset, tick, icanhaz}
+use Rattle.server_calls.specs.Calls.{Call as ServerCall}
+use Rattle.server_calls.specs.Next.{acceptedNext as serverBecomes}
+use Rattle.server_calls.specs.Output.{acceptedBytes as serverWrites}
+use Rattle.server_calls.specs.Refusals.{callChecks as serverChecks}
 use Rattle.server_state.specs.Views.{Entry, Ledger, ledgerOf}
 use Rattle.joining.specs.Book.ServerStart.{begin}
 use Rattle.joining.specs.Book.{ServerStart}

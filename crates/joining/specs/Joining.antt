@@ -5,13 +5,13 @@ use mathlib.Core.Bool.{true}
 use mathlib.Core.Option.{Option, none, some}
 use mathlib.Core.Path.{_≡_}
 use Rattle.base.specs.Bytes.{Bytes}
-use Rattle.client_plan.specs.Calls.{Call as ClientCall}
-use Rattle.client_plan.specs.Calls.Call.{subscriber}
+use Rattle.client_calls.specs.Calls.{Call as ClientCall}
+use Rattle.client_calls.specs.Calls.Call.{subscriber}
 use Rattle.client_state.specs.Views.{Replica}
-use Rattle.names.specs.Keys.{under}
+use Rattle.keys.specs.Keys.{under}
 use Rattle.rows.specs.Rows.{Rows, keep, heldUnder, mapRows}
-use Rattle.server_plan.specs.Calls.{Call as ServerCall}
-use Rattle.server_plan.specs.Calls.Call.{icanhaz}
+use Rattle.server_calls.specs.Calls.{Call as ServerCall}
+use Rattle.server_calls.specs.Calls.Call.{icanhaz}
 use Rattle.server_state.specs.Views.{Entry, Ledger}
 use Rattle.joining.specs.Book.{ServerStart, bookRefusal, bookAfter, mapOf, mapAt, rises}
 use Rattle.joining.specs.Ends.{ClientStart, serverAfter, published, answerTo, clientRefusal, clientNext, clientAfter, handed, hears, accepted, heard}

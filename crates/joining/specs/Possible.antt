@@ -4,15 +4,15 @@ use mathlib.Core.Bool.{true}
 use mathlib.Core.Option.{none}
 use mathlib.Core.Path.{_≡_}
 use Rattle.base.specs.Bytes.{Bytes}
-use Rattle.client_plan.specs.Calls.Call.{snapshot}
-use Rattle.client_plan.specs.Calls.{Call as ClientCall}
+use Rattle.client_calls.specs.Calls.Call.{snapshot}
+use Rattle.client_calls.specs.Calls.{Call as ClientCall}
 use Rattle.frames.specs.Messages.{frameAt}
 use Rattle.messages.specs.Fields.{icanhaz as question, withIdentity}
-use Rattle.names.specs.Keys.{isSubtree}
-use Rattle.names.specs.Lengths.{isIdentity}
-use Rattle.names.specs.Numbers.{maxTick}
-use Rattle.server_plan.specs.Calls.Call.{icanhaz}
-use Rattle.server_plan.specs.Calls.{Call as ServerCall}
+use Rattle.keys.specs.Keys.{isSubtree}
+use Rattle.frame_forms.specs.Lengths.{isIdentity}
+use Rattle.numbers.specs.Ticks.{maxTick}
+use Rattle.server_calls.specs.Calls.Call.{icanhaz}
+use Rattle.server_calls.specs.Calls.{Call as ServerCall}
 use Rattle.joining.specs.Book.{ServerStart, bookRefusal, bookAfter}
 use Rattle.joining.specs.Ends.ClientStart.{wait}
 use Rattle.joining.specs.Ends.{ClientStart, serverAfter, answerTo, clientAfter}

@@ -7,7 +7,7 @@ use lib.ListN.{length}
 use Rattle.base.specs.Bytes.{Bytes, same}
 use Rattle.base.specs.Octets.{number}
 use Rattle.frames.specs.Messages.{partsOf, frameAt}
-use Rattle.names.specs.Words.{wordHugz}
+use Rattle.frame_forms.specs.Words.{wordHugz}
 use Rattle.base.specs.Logs.Log.{empty, _▷_}
 use Rattle.base.specs.Logs.{Log, add}
 

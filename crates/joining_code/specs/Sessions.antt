@@ -2,18 +2,19 @@
 use Prim.Native.Nat.{ℕ}
 use mathlib.Core.Path.{_≡_}
 use lib.ListN.{length}
+use Rattle.answers.specs.declared.answer.Answer.{Answer}
 use Rattle.base.specs.Bytes.{Bytes}
 use Rattle.base.specs.Output.{put}
-use Rattle.client_plan.specs.Calls.Call.{snapshot, subscriber, writeIcanhaz, writeKvset, ask, lookup}
-use Rattle.client_plan.specs.Calls.{Call as ClientCall}
+use Rattle.client_calls.specs.Calls.Call.{snapshot, subscriber, writeIcanhaz, writeKvset, ask, lookup}
+use Rattle.client_calls.specs.Calls.{Call as ClientCall}
 use Rattle.client_state.specs.declared.Client.{Client}
 use Rattle.joining.specs.Book.{ServerStart}
 use Rattle.joining.specs.Ends.{serverBytes, serverAnswer, serverAfter, ClientStart, clientBytes, clientAfter}
 use Rattle.base.specs.Logs.Log.{empty, _▷_}
 use Rattle.base.specs.Logs.{Log}
-use Rattle.server_plan.specs.Calls.Call.{kvset, tick, icanhaz}
-use Rattle.server_plan.specs.Calls.{Call as ServerCall}
-use Rattle.server_plan.specs.declared.Reply.{Reply as ServerReply}
+use Rattle.server_calls.specs.Calls.Call.{kvset, tick, icanhaz}
+use Rattle.server_calls.specs.Calls.{Call as ServerCall}
+use Rattle.server_state.specs.declared.Server.{Server}
 use Rattle.joining_code.specs.Runs.{ServerRan, ClientRan}
 
 -- ---- a server: an update, a tick, a snapshot
@@ -24,9 +25,9 @@ module _ (p : ServerStart) (msg request : Bytes) (t : ℕ) (update expiry rows :
   abbrev pub timed : Log ServerCall
   timed = updated ▷ tick t (length expiry)
 
-  pub record Served (r : ServerReply) (update′ expiry′ rows′ : Bytes) : Type 0 where
-    pub ran : ServerRan p (timed ▷ icanhaz request (length rows)) (r .state)
-    pub answer : r .answer ≡ serverAnswer (serverAfter p timed) (icanhaz request (length rows))
+  pub record Served (s : Server) (a : Answer) (update′ expiry′ rows′ : Bytes) : Type 0 where
+    pub ran : ServerRan p (timed ▷ icanhaz request (length rows)) s
+    pub answer : a ≡ serverAnswer (serverAfter p timed) (icanhaz request (length rows))
     pub updates : update′ ≡ put update 0 (serverBytes (serverAfter p empty) (kvset msg t (length update)))
     pub expires : expiry′ ≡ put expiry 0 (serverBytes (serverAfter p updated) (tick t (length expiry)))
     pub sends : rows′ ≡ put rows 0 (serverBytes (serverAfter p timed) (icanhaz request (length rows)))

@@ -1,12 +1,8 @@
 // Sessions: one end that is started and then called, each entry once. What the entries promise makes the calls a run.
 use client_state::Client;
-use names::numbers::Sequence;
-use names::numbers::Tick;
-use server::icanhaz;
-use server::kvset;
-use server::start;
-use server_clock::tick;
-use server_plan::Reply;
+use numbers::sequence::Sequence;
+use numbers::tick::Tick;
+use server::Reply;
 ghost use Rattle.joining.specs.Book.ServerStart.{begin};
 ghost use Rattle.joining.specs.Ends.ClientStart.{wait};
 ghost use Rattle.joining_code.specs.Sessions.{Served, Followed};
@@ -22,15 +18,20 @@ pub fn serve<'a>(
     expiry: &'a mut [u8],
     snapshot: &'a mut [u8],
 ) -> Reply
-    ensures { λ r. ⌜ Served (begin (number .0) (began .0)) (now (msg .entry)) (now (request .entry)) (at .0) (now (update .entry)) (now (expiry .entry)) (now (snapshot .entry)) r (now (update .exit)) (now (expiry .exit)) (now (snapshot .exit)) ⌝ }
+    ensures { λ r. ⌜ Served (begin (number .0) (began .0)) (now (msg .entry)) (now (request .entry)) (at .0)
+        (now (update .entry)) (now (expiry .entry)) (now (snapshot .entry))
+        (r .state) (r .answer) (now (update .exit)) (now (expiry .exit)) (now (snapshot .exit)) ⌝ }
 {
-    let fresh = start::start(number, began);
-    let set = kvset::kvset(fresh.state, msg, at, update);
-    let timed = tick::tick(set.state, at, expiry);
-    icanhaz::icanhaz(timed.state, request, snapshot)
+    let fresh = server::start(number, began);
+    let set = server::kvset(fresh.state, msg, at, update);
+    let timed = server::tick(set.state, at, expiry);
+    let state = timed.state;
+    let answer = server::icanhaz(state, request, snapshot);
+    Reply { state, answer }
 }
 
-// A client: the request, a message of the snapshot, one that was published, an update, whether the server is gone, and what a key has.
+// A client: the request, a message of the snapshot, one that was published, an update, whether the server is gone, and
+// what a key has.
 pub fn follow<'a>(
     subtree: &'a [u8],
     began: Tick,
@@ -45,14 +46,17 @@ pub fn follow<'a>(
     update: &'a mut [u8],
     found: &'a mut [u8],
 ) -> Client
-    ensures { λ c. ⌜ Followed (wait (now (subtree .entry)) (began .0)) (now (row .entry)) (now (news .entry)) (at .0) (now (key .entry)) (now (uuid .entry)) (now (properties .entry)) (now (value .entry)) (now (request .entry)) (now (update .entry)) (now (found .entry)) c (now (request .exit)) (now (update .exit)) (now (found .exit)) ⌝ }
+    ensures { λ c. ⌜ Followed (wait (now (subtree .entry)) (began .0)) (now (row .entry)) (now (news .entry)) (at .0)
+        (now (key .entry)) (now (uuid .entry)) (now (properties .entry)) (now (value .entry))
+        (now (request .entry)) (now (update .entry)) (now (found .entry))
+        c (now (request .exit)) (now (update .exit)) (now (found .exit)) ⌝ }
 {
-    let fresh = client::start::start(subtree, began);
-    client_queries::write::write_icanhaz(fresh.state, request);
-    let synced = client::snapshot::snapshot(fresh.state, row);
-    let told = client::subscriber::subscriber(synced.state, news, at);
-    client_queries::write::write_kvset(told.state, key, uuid, properties, value, update);
-    client_queries::ask::ask(told.state, at);
-    client_queries::lookup::lookup(told.state, key, found);
+    let fresh = client::start(subtree, began);
+    client::write_icanhaz(fresh.state, request);
+    let synced = client::snapshot(fresh.state, row);
+    let told = client::subscriber(synced.state, news, at);
+    client::write_kvset(told.state, key, uuid, properties, value, update);
+    client::ask(told.state, at);
+    client::lookup(told.state, key, found);
     told.state
 }

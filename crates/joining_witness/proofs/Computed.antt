@@ -3,10 +3,10 @@ use Rattle.base.specs.Bytes.{prefix, same, holds, every}
 use Rattle.base.specs.Checks.{firstOf}
 use Rattle.base.specs.Cuts.{before, behind, pieces}
 use Rattle.base.specs.Octets.{numberFrom, octets}
-use Rattle.client.specs.Start.{startRefusal as clientStartRefusal, startOf as waiting}
-use Rattle.client_plan.specs.Next.{effectNext, acceptedNext as clientBecomes}
-use Rattle.client_plan.specs.Output.{acceptedBytes as clientWrites}
-use Rattle.client_plan.specs.Refusals.{callChecks as clientChecks}
+use Rattle.client_calls.specs.Start.{startRefusal as clientStartRefusal, startOf as waiting}
+use Rattle.client_calls.specs.Next.{effectNext, acceptedNext as clientBecomes}
+use Rattle.client_calls.specs.Output.{acceptedBytes as clientWrites}
+use Rattle.client_calls.specs.Refusals.{callChecks as clientChecks}
 use Rattle.frames.specs.Messages.{readUpTo, framesIn, frame, encode, frameAt}
 use Rattle.frames.specs.Runs.{endUpTo, endIn, joined, cutUpTo, messagesIn}
 use Rattle.frames.specs.Steps.{shortOf, longOf, flagged, stepOf}
@@ -17,18 +17,18 @@ use Rattle.joining.specs.Readings.{isKvpub, keyOf, numberOf, kvpubNumber, kvpub
 use Rattle.joining_witness.proofs.GapTests.{among, allAmong, between, noneBetween, gapless}
 use Rattle.joining_witness.specs.Kinds.{serverKinds, clientKinds}
 use Rattle.messages.specs.Fields.{bytesOf}
-use Rattle.names.specs.Keys.{isKey, isSubtree}
-use Rattle.names.specs.Order.{orderOf}
+use Rattle.keys.specs.Keys.{isKey, isSubtree}
+use Rattle.key_order.specs.Order.{orderOf}
 use Rattle.properties.specs.Decimals.{decimalFrom, decimalOf}
 use Rattle.properties.specs.Properties.{propertyIn, propertiesIn, ttls, propertiesOf}
 use Rattle.rows.specs.Rows.{setRow, removeRow, keep, hasKey, heldUnder, mapRows}
-use Rattle.server.specs.Start.{startRefusal as serverStartRefusal, startOf as begun}
-use Rattle.server_plan.specs.Deeds.{deed}
-use Rattle.server_plan.specs.Next.{kvsetNext, tickNext, acceptedNext as serverBecomes}
-use Rattle.server_plan.specs.Output.{tickBytes, acceptedBytes as serverWrites}
-use Rattle.server_plan.specs.Refusals.{update, expiry, callChecks as serverChecks}
-use Rattle.server_state.specs.Due.{leastDue}
-use Rattle.server_state.specs.Snapshots.{syncs, snapshotBytes, sum, snapshotLength}
+use Rattle.server_calls.specs.Start.{startRefusal as serverStartRefusal, startOf as begun}
+use Rattle.server_calls.specs.Deeds.{deed}
+use Rattle.server_calls.specs.Next.{kvsetNext, tickNext, acceptedNext as serverBecomes}
+use Rattle.server_calls.specs.Output.{tickBytes, acceptedBytes as serverWrites}
+use Rattle.server_calls.specs.Refusals.{update, expiry, callChecks as serverChecks}
+use Rattle.server_calls.specs.Due.{leastDue}
+use Rattle.server_calls.specs.Snapshots.{syncs, snapshotBytes, sum, snapshotLength}
 use Rattle.server_state.specs.Views.{plain, ledgerOf}
 
 unfoldable pub computed : Unit {0}

@@ -8,7 +8,7 @@ use lib.Dec.{ltb}
 use borrow.Author.Tests.{lt-ltb}
 use Rattle.base.proofs.ByteLaws.{and-left, and-right, or-left, or-right, same-refl, same-eq}
 use Rattle.base.specs.Bytes.{Bytes, same}
-use Rattle.client_plan.specs.Calls.{Call as ClientCall}
+use Rattle.client_calls.specs.Calls.{Call as ClientCall}
 use Rattle.client_state.specs.Views.{Replica}
 use Rattle.joining.specs.Book.{ServerStart}
 use Rattle.joining.specs.Ends.{ClientStart, published, clientAfter, hears}
@@ -16,8 +16,8 @@ use Rattle.joining.specs.Joining.{AllBetween, NoGap}
 use Rattle.base.specs.Logs.Log.{empty, _▷_}
 use Rattle.base.specs.Logs.{Log, Among}
 use Rattle.joining.specs.Readings.{isKvpub, keyOf, numberOf}
-use Rattle.names.specs.Keys.{under}
-use Rattle.server_plan.specs.Calls.{Call as ServerCall}
+use Rattle.keys.specs.Keys.{under}
+use Rattle.server_calls.specs.Calls.{Call as ServerCall}
 
 -- ---- messages among others
 unfoldable pub among : Bytes → Log Bytes → Bool

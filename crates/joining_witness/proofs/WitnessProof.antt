@@ -9,7 +9,7 @@ use mathlib.Core.Path.{_≡_, refl, sym, _∙_}
 use lib.Dec.{leb}
 use borrow.Author.Tests.{leb-true}
 use Rattle.base.specs.Bytes.{Bytes}
-use Rattle.client_plan.specs.Calls.{Call as ClientCall}
+use Rattle.client_calls.specs.Calls.{Call as ClientCall}
 use Rattle.joining.specs.Book.{bookRefusal, bookAfter, mapAt}
 use Rattle.joining.specs.Ends.{ClientStart, serverAfter, published, answerTo, clientAfter, accepted}
 use Rattle.joining.specs.Joining.{AllBetween, highest}
@@ -19,10 +19,10 @@ use Rattle.joining_witness.proofs.Computed.{computed}
 use Rattle.joining_witness.proofs.GapTests.{allAmong, are-among, gapless, near, no-gap}
 use Rattle.joining_witness.specs.Session.{undo7, undo70, cut, new, firstRequest, secondRequest, thirdRequest, fourthRequest, kvpub1, kvpub2, kvpub3, kvpub4, beating, opens, opening, joining, changes, calls, firstStart, firstJoins, firstFollows, firstCalls, secondStart, secondCalls, thirdStart, thirdCalls, fourthStart, fourthCalls}
 use Rattle.joining_witness.specs.Witness.{Joins, Witness}
-use Rattle.names.specs.Keys.{under}
+use Rattle.keys.specs.Keys.{under}
 use Rattle.rows.specs.Rows.{Rows, keep}
-use Rattle.server_plan.specs.Calls.Call.{tick, icanhaz}
-use Rattle.server_plan.specs.Calls.{Call as ServerCall}
+use Rattle.server_calls.specs.Calls.Call.{tick, icanhaz}
+use Rattle.server_calls.specs.Calls.{Call as ServerCall}
 
 -- ---- what is published
 abbrev all : Log Bytes

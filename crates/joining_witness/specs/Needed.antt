@@ -6,8 +6,8 @@ use mathlib.Core.List.{[], _∷_}
 use mathlib.Core.Option.{none}
 use mathlib.Core.Path.{_≡_}
 use Rattle.base.specs.Bytes.{Bytes, ascii}
-use Rattle.client_plan.specs.Calls.Call.{snapshot, subscriber}
-use Rattle.client_plan.specs.Calls.{Call as ClientCall}
+use Rattle.client_calls.specs.Calls.Call.{snapshot, subscriber}
+use Rattle.client_calls.specs.Calls.{Call as ClientCall}
 use Rattle.joining.specs.Book.{bookRefusal, bookAfter, mapAt}
 use Rattle.joining.specs.Ends.{serverAfter, published, answerTo, clientAfter, accepted}
 use Rattle.joining.specs.Joining.{Took, NoGap, highest}
@@ -15,10 +15,10 @@ use Rattle.base.specs.Logs.Log.{empty, _▷_}
 use Rattle.base.specs.Logs.{Log, _⧺_, Among}
 use Rattle.joining_witness.specs.Session.{clip7, cut, new, setting, firstRequest, opens, firstStart}
 use Rattle.messages.specs.Fields.{bytesOf, kvpub, kvsync, kthxbai}
-use Rattle.names.specs.Keys.{under}
+use Rattle.keys.specs.Keys.{under}
 use Rattle.rows.specs.Rows.{keep}
-use Rattle.server_plan.specs.Calls.Call.{kvset, icanhaz}
-use Rattle.server_plan.specs.Calls.{Call as ServerCall}
+use Rattle.server_calls.specs.Calls.Call.{kvset, icanhaz}
+use Rattle.server_calls.specs.Calls.{Call as ServerCall}
 
 -- ---- both lists
 abbrev pub keyA : Bytes

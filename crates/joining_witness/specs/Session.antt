@@ -1,8 +1,8 @@
 -- A session: a server that four desks join. Its messages are written out, and that the ends write and publish these is part of what is claimed of it.
 use mathlib.Core.List.{[], _∷_, _++_}
 use Rattle.base.specs.Bytes.{Bytes, ascii}
-use Rattle.client_plan.specs.Calls.Call.{snapshot, subscriber, writeIcanhaz, writeKvset, ask, lookup}
-use Rattle.client_plan.specs.Calls.{Call as ClientCall}
+use Rattle.client_calls.specs.Calls.Call.{snapshot, subscriber, writeIcanhaz, writeKvset, ask, lookup}
+use Rattle.client_calls.specs.Calls.{Call as ClientCall}
 use Rattle.joining.specs.Book.ServerStart.{begin}
 use Rattle.joining.specs.Book.{ServerStart}
 use Rattle.joining.specs.Ends.ClientStart.{wait}
@@ -10,8 +10,8 @@ use Rattle.joining.specs.Ends.{ClientStart}
 use Rattle.base.specs.Logs.Log.{empty, _▷_}
 use Rattle.base.specs.Logs.{Log, _⧺_}
 use Rattle.messages.specs.Fields.{bytesOf, kvset as update, kvpub, kvsync, kthxbai, hugz, icanhaz as question, withIdentity}
-use Rattle.server_plan.specs.Calls.Call.{kvset, tick, icanhaz}
-use Rattle.server_plan.specs.Calls.{Call as ServerCall}
+use Rattle.server_calls.specs.Calls.Call.{kvset, tick, icanhaz}
+use Rattle.server_calls.specs.Calls.{Call as ServerCall}
 
 -- ---- keys, subtrees, values
 abbrev pub undo7 : Bytes

@@ -7,8 +7,8 @@ use mathlib.Core.Path.{_≡_}
 use Rattle.answers.specs.declared.answer.Kind.the-variants.{Refused, Applied, Stale, Outside, Synced, Live, Heard, Wrote, Found, Present}
 use Rattle.answers.specs.declared.refusal.Refusal.the-variants.{Framing, Phase, ShortOutput}
 use Rattle.base.specs.Bytes.{Bytes}
-use Rattle.client_plan.specs.Calls.Call.{writeIcanhaz, lookup}
-use Rattle.client_plan.specs.Calls.{Call as ClientCall}
+use Rattle.client_calls.specs.Calls.Call.{writeIcanhaz, lookup}
+use Rattle.client_calls.specs.Calls.{Call as ClientCall}
 use Rattle.joining.specs.Book.{bookAfter, mapOf, mapAt}
 use Rattle.joining.specs.Ends.{ClientStart, serverRefusal, serverBytes, serverAfter, published, clientBytes, clientAfter}
 use Rattle.joining.specs.Joining.{AllBetween, Joined, joinedAt, Follows}
@@ -19,10 +19,10 @@ use Rattle.joining_witness.specs.Kinds.{serverKinds, clientKinds}
 use Rattle.joining_witness.specs.Session.{undo7, undo70, cut, new, firstIdentity, firstRequest, kvpub1, kvpub2, kvpub3, kvpub4, beating, opens, firstSet, opening, asked, calls, firstStart, firstWaits, firstJoins, firstFollows, firstCalls, secondStart, secondCalls, thirdStart, thirdCalls, fourthStart, fourthCalls}
 use Rattle.joining_witness.specs.W1.{updateBytes, answerBytes, beatBytes}
 use Rattle.messages.specs.Fields.{withIdentity}
-use Rattle.names.specs.Keys.{under}
-use Rattle.names.specs.Numbers.{sequence}
+use Rattle.keys.specs.Keys.{under}
+use Rattle.numbers.specs.Sequences.{sequence}
 use Rattle.rows.specs.Rows.{Rows}
-use Rattle.server_plan.specs.Calls.Call.{tick, icanhaz}
+use Rattle.server_calls.specs.Calls.Call.{tick, icanhaz}
 
 -- a desk meets all that is supposed, and what is claimed of it holds: it joins at m, accepts some messages since, and then has a number and rows
 pub record Joins (q : ClientStart) (C : Log ClientCall) (m : ℕ) (since : Log Bytes) (n : ℕ) (kept : Rows Bytes) : Type 0 where

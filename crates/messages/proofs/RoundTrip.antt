@@ -11,7 +11,7 @@ use Rattle.base.specs.Bytes.{Bytes}
 use Rattle.frames.proofs.FrameLaws.{frame-begins, rest-read, Sized, round-trip}
 use Rattle.frames.specs.Messages.{framesIn, encode, frameAt}
 use Rattle.messages.specs.Fields.{Fields, bytesOf, fieldsOf, icanhaz, withIdentity, withoutIdentity}
-use Rattle.names.specs.Words.{wordIcanhaz}
+use Rattle.frame_forms.specs.Words.{wordIcanhaz}
 
 -- each frame is short enough for a size
 abbrev pub Sizable : Fields → Type 0

@@ -12,7 +12,7 @@ use Rattle.base.specs.Output.{largest, Written}
 use Rattle.frames.proofs.FrameLaws.{frame-length}
 use Rattle.frames.specs.Messages.{frameLength, frame, encode}
 use Rattle.messages.specs.Fields.{Fields, fields, bytesOf, messageLength, icanhaz}
-use Rattle.names.specs.Words.{wordIcanhaz}
+use Rattle.frame_forms.specs.Words.{wordIcanhaz}
 
 -- ---- five frames, one behind the other
 module _ (a b c d e : Bytes) where

@@ -6,7 +6,7 @@ use Rattle.base.specs.Bytes.{Bytes}
 use Rattle.base.specs.Octets.{octets}
 use Rattle.frames.specs.Messages.{restOf, frameAt, frameLength, frame, encode}
 use Rattle.frames.specs.Steps.{stepOf}
-use Rattle.names.specs.Words.{wordIcanhaz, wordKthxbai, wordHugz}
+use Rattle.frame_forms.specs.Words.{wordIcanhaz, wordKthxbai, wordHugz}
 
 -- the five frames of a message: key or word, sequence, UUID, properties, value or subtree
 pub record Fields : Type 0 where

@@ -1,16 +1,18 @@
-// Writing messages. Each writer puts a whole message into the output from place at on and gives the place behind it; where it does
-// not fit, the output stays as it is, and at is given back.
+// Writing messages. Each writer puts a whole message into the output from place at on and gives the place behind it;
+// where it does not fit, the output stays as it is, and at is given back.
 use base::octets;
 use base::output;
 use frame_writer::frame;
-use names::numbers::Sequence;
+use numbers::sequence::Sequence;
 ghost use mathlib.Core.Path.{_≡_};
 ghost use Prim.Native.Nat.{min};
 ghost use Rattle.base.specs.Output.{Written, largest};
 ghost use Rattle.base.specs.Octets.{octets};
-ghost use Rattle.messages.specs.Fields.{fields, bytesOf, messageLength, kvset, kvpub, kvsync, kthxbai, hugz, icanhaz};
+ghost use Rattle.messages.specs.Fields.{fields, bytesOf, messageLength};
+ghost use Rattle.messages.specs.Fields.{kvset, kvpub, kvsync, kthxbai, hugz, icanhaz};
 
-// How many bytes a message of five frames takes, by the lengths of its bodies, or the largest number where that is larger.
+// How many bytes a message of five frames takes, by the lengths of its bodies, or the largest number where that is
+// larger.
 pub fn message_length(head: usize, uuid: usize, properties: usize, value: usize) -> usize
     ensures { λ r. ⌜ r ≡ min (messageLength head uuid properties value) largest ⌝ }
 {
@@ -30,7 +32,8 @@ pub fn write_message(
     properties: &[u8],
     value: &[u8],
 ) -> usize
-    ensures { λ r. ⌜ Written (now (out .entry)) at (bytesOf (fields (now (head .entry)) (octets 8 (number .0)) (now (uuid .entry)) (now (properties .entry)) (now (value .entry)))) r (now (out .exit)) ⌝ }
+    ensures { λ r. ⌜ Written (now (out .entry)) at (bytesOf (fields (now (head .entry)) (octets 8 (number .0))
+        (now (uuid .entry)) (now (properties .entry)) (now (value .entry)))) r (now (out .exit)) ⌝ }
 {
     let need = message_length(head.len(), uuid.len(), properties.len(), value.len());
     if !output::has_room(out.len(), at, need) {
@@ -53,7 +56,8 @@ pub fn write_kvset(
     properties: &[u8],
     value: &[u8],
 ) -> usize
-    ensures { λ r. ⌜ Written (now (out .entry)) at (bytesOf (kvset (now (key .entry)) (now (uuid .entry)) (now (properties .entry)) (now (value .entry)))) r (now (out .exit)) ⌝ }
+    ensures { λ r. ⌜ Written (now (out .entry)) at (bytesOf (kvset (now (key .entry)) (now (uuid .entry))
+        (now (properties .entry)) (now (value .entry)))) r (now (out .exit)) ⌝ }
 {
     write_message(out, at, key, Sequence(0), uuid, properties, value)
 }
@@ -68,21 +72,24 @@ pub fn write_kvpub(
     properties: &[u8],
     value: &[u8],
 ) -> usize
-    ensures { λ r. ⌜ Written (now (out .entry)) at (bytesOf (kvpub (number .0) (now (key .entry)) (now (uuid .entry)) (now (properties .entry)) (now (value .entry)))) r (now (out .exit)) ⌝ }
+    ensures { λ r. ⌜ Written (now (out .entry)) at (bytesOf (kvpub (number .0) (now (key .entry)) (now (uuid .entry))
+        (now (properties .entry)) (now (value .entry)))) r (now (out .exit)) ⌝ }
 {
     write_message(out, at, key, number, uuid, properties, value)
 }
 
 // KVSYNC: a row of a snapshot, with the number of its last set.
 pub fn write_kvsync(out: &mut [u8], at: usize, number: Sequence, key: &[u8], value: &[u8]) -> usize
-    ensures { λ r. ⌜ Written (now (out .entry)) at (bytesOf (kvsync (number .0) (now (key .entry)) (now (value .entry)))) r (now (out .exit)) ⌝ }
+    ensures { λ r. ⌜ Written (now (out .entry)) at (bytesOf (kvsync (number .0) (now (key .entry))
+        (now (value .entry)))) r (now (out .exit)) ⌝ }
 {
     write_message(out, at, key, number, b"", b"", value)
 }
 
 // KTHXBAI: the end of a snapshot, with the server's number.
 pub fn write_kthxbai(out: &mut [u8], at: usize, number: Sequence, subtree: &[u8]) -> usize
-    ensures { λ r. ⌜ Written (now (out .entry)) at (bytesOf (kthxbai (number .0) (now (subtree .entry)))) r (now (out .exit)) ⌝ }
+    ensures { λ r. ⌜ Written (now (out .entry)) at (bytesOf (kthxbai (number .0) (now (subtree .entry)))) r
+        (now (out .exit)) ⌝ }
 {
     write_message(out, at, b"KTHXBAI", number, b"", b"", subtree)
 }

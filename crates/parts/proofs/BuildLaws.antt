@@ -17,7 +17,7 @@ use Rattle.base.specs.Logs.{Log}
 use Rattle.base.specs.Output.{largest, put, fits, Written}
 use Rattle.frames.proofs.FrameLaws.{frame-length, Begins, frame-begins, last-read, more-read}
 use Rattle.frames.proofs.MessageLaws.{frames-step}
-use Rattle.frames.specs.Messages.{framesIn, readUpTo, frameLength, frame}
+use Rattle.frames.specs.Messages.{framesIn, readUpTo, frame}
 use Rattle.parts.specs.Build.Ran.{begun, added}
 use Rattle.parts.specs.Build.{Part, partOf, bodies, asFrames, promising, complete, Bounded, holdable, grown, builtWith, bufferWith, Put, heldIn, Ran, ReadsBack}
 use Rattle.parts.specs.declared.build.Built.the-variants.{Open, Whole, Void}

@@ -3,14 +3,12 @@ use Prim.Native.Nat.{ℕ, zero, suc, _+_, min, _≤_}
 use native.Mathlib.Omega.{arith}
 use mathlib.Core.Bool.{Bool, true, false, cond, not}
 use mathlib.Core.List.{List, [], _∷_}
-use mathlib.Core.Logic.{_⊎_, inl, inr}
 use mathlib.Core.Path.{_≡_, refl, sym, ap, _∙_}
 use lib.Dec.{leb, eqb}
-use lib.ListN.{length, getD, drop-of-length-le}
+use lib.ListN.{length, getD}
 use borrow.Author.Tests.{leb-true, leb-false}
 use Rattle.base.specs.Bytes.{Bytes}
 use Rattle.base.specs.Output.{largest}
-use Rattle.frames.specs.Steps.{stepOf}
 use Rattle.parts.proofs.WalkLaws.{past-end}
 use Rattle.parts.specs.Build.{partOf, Put}
 use Rattle.parts.specs.Numbers.{staged, builtOf, numbersOf, Added, after, isBody, bodyOr, FrameGiven}
@@ -18,7 +16,6 @@ use Rattle.parts.specs.Walk.{takenAt}
 use Rattle.parts.specs.declared.build.Built.the-variants.{Open, Whole, Void}
 use Rattle.parts.specs.declared.build.Built.{Built}
 use Rattle.parts.specs.declared.walk.Taken.the-variants.{Body, End}
-use Rattle.parts.specs.declared.walk.Taken.{Taken}
 
 -- ---- a message
 pub void-stage : (k n : ℕ) → (k ≡ 0 → ⊥) → (k ≡ 1 → ⊥) → Void ≡ staged k n

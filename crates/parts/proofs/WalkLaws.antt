@@ -22,7 +22,6 @@ use Rattle.frames.specs.declared.step.Step.{Step}
 use Rattle.parts.specs.Build.{Part, partOf}
 use Rattle.parts.specs.Walk.{placed, beginsMessage, mayBegin, takenAt, takenOn, taken, asParts, asPartsAll, TakesApart}
 use Rattle.parts.specs.declared.walk.Taken.the-variants.{Body, End}
-use Rattle.parts.specs.declared.walk.Taken.{Taken}
 
 -- ---- a walk ends: each part takes two bytes or more
 few : (n : ℕ) (s : Bytes) (at : ℕ) (inside : Bool) → length (taken n s at inside) ≤ length s - at

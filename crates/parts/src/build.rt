@@ -15,7 +15,8 @@ pub enum Built {
 
 // Puts a part as a frame from a place on, if there is room for it.
 fn put_at(buffer: &mut [u8], at: usize, more: bool, body: &[u8]) -> Built
-    ensures { λ r. ⌜ Put (now (buffer .entry)) (Built.Open at) (partOf more (now (body .entry))) r (now (buffer .exit)) ⌝ }
+    ensures { λ r. ⌜ Put (now (buffer .entry)) (Built.Open at) (partOf more (now (body .entry))) r
+        (now (buffer .exit)) ⌝ }
 {
     let next = frame::put_frame(buffer, at, more, body);
     if next == at {
@@ -27,8 +28,8 @@ fn put_at(buffer: &mut [u8], at: usize, more: bool, body: &[u8]) -> Built
     Built::Whole(next)
 }
 
-// Puts a part after those that the buffer has, as a frame; more says whether another part follows. Where it cannot be put
-// there, the message is void and the buffer stays as it is.
+// Puts a part after those that the buffer has, as a frame; more says whether another part follows. Where it cannot be
+// put there, the message is void and the buffer stays as it is.
 pub fn put_part(buffer: &mut [u8], built: Built, more: bool, body: &[u8]) -> Built
     ensures { λ r. ⌜ Put (now (buffer .entry)) built (partOf more (now (body .entry))) r (now (buffer .exit)) ⌝ }
 {

@@ -1,4 +1,5 @@
-// Messages as the parts that a socket carries: built from parts that arrive one by one, and split into those that are sent.
+// Messages as the parts that a socket carries: built from parts that arrive one by one, and split into those that are
+// sent.
 pub mod build;
-pub mod numbers;
+pub mod lent;
 pub mod walk;

@@ -26,9 +26,9 @@ use Rattle.framing.specs.declared.Framing.the-variants.{Frames, Broken, Surplus
 use Rattle.framing.specs.declared.Framing.{Framing as FoundFraming}
 use Rattle.framing.specs.declared.Split.{Split}
 use Rattle.messages.specs.Fields.{Fields, fieldsOf}
-use Rattle.names.specs.Numbers.{sequence, isSequence, numberedOf}
-use Rattle.names.specs.declared.numbers.Numbered.the-variants.{By, Unnumbered}
-use Rattle.names.specs.declared.numbers.Sequence.{Sequence}
+use Rattle.numbers.specs.Sequences.{sequence, isSequence, numberedOf}
+use Rattle.numbers.specs.declared.sequence.Numbered.the-variants.{By, Unnumbered}
+use Rattle.numbers.specs.declared.sequence.Sequence.{Sequence}
 use Rattle.ports.specs.Bodies.{framedBy, fieldsAt, kvsetBy, icanhazBy, snapshotBy, subscriberBy, lifetimeIn, updateOf}
 use Rattle.ports.specs.Ports.{isNone, framed, kvsetChecks, kvsetPort, icanhazChecks, icanhazPort, snapshotChecks, snapshotPort, publishedChecks, subscriberPort}
 use Rattle.ports.specs.declared.update.Update.the-variants.{Refuse, Lasting}

@@ -11,9 +11,9 @@ use Rattle.base.proofs.ByteLaws.{and-right}
 use Rattle.base.proofs.CheckLaws.{passed}
 use Rattle.base.specs.Bytes.{Bytes}
 use Rattle.base.specs.Checks.{firstOf}
-use Rattle.names.proofs.UnderLaws.{subtree-short}
-use Rattle.names.specs.Keys.{isSubtree}
-use Rattle.names.specs.Lengths.{isUuid, isIdentity, isValue}
+use Rattle.keys.proofs.UnderLaws.{subtree-short}
+use Rattle.keys.specs.Keys.{isSubtree}
+use Rattle.frame_forms.specs.Lengths.{isUuid, isIdentity, isValue}
 use Rattle.ports.specs.Ports.{payloadChecks, icanhazChecks}
 use Rattle.properties.proofs.LifetimeLaws.{good-length}
 use Rattle.properties.specs.Properties.{propertiesOf, isGood}

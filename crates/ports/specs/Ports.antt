@@ -14,10 +14,11 @@ use Rattle.base.specs.Checks.{Check, firstOf}
 use Rattle.base.specs.Octets.{number}
 use Rattle.frames.specs.Messages.{framesIn, partsOf, frameAt}
 use Rattle.messages.specs.Fields.{Fields, fieldsOf}
-use Rattle.names.specs.Keys.{isKey, isSubtree, under}
-use Rattle.names.specs.Lengths.{isUuid, isIdentity, isValue}
-use Rattle.names.specs.Numbers.{maxSequence, maxTick, isSequence}
-use Rattle.names.specs.Words.{wordIcanhaz, wordKthxbai, wordHugz}
+use Rattle.keys.specs.Keys.{isKey, isSubtree, under}
+use Rattle.frame_forms.specs.Lengths.{isUuid, isIdentity, isValue}
+use Rattle.numbers.specs.Sequences.{maxSequence, isSequence}
+use Rattle.numbers.specs.Ticks.{maxTick}
+use Rattle.frame_forms.specs.Words.{wordIcanhaz, wordKthxbai, wordHugz}
 use Rattle.properties.specs.Properties.{propertiesOf, isGood}
 
 abbrev pub isNone : {A : Type 0} → Option A → Bool
@@ -67,8 +68,8 @@ bareChecks uuid properties =
     ∷ []
 
 -- the value of a row
-abbrev pub heldChecks : Bytes → List (Check Refusal)
-heldChecks value =
+abbrev pub rowValueChecks : Bytes → List (Check Refusal)
+rowValueChecks value =
     when (isNil value) BadValue
     ∷ when (not (isValue value)) BadValue
     ∷ []
@@ -79,7 +80,7 @@ kvsyncChecks subtree f =
     when (not (isKey (f .head))) BadKey
     ∷ when (not (under subtree (f .head))) BadSubtree
     ∷ when (not (isSequence (f .sequence))) BadSequence
-    ∷ (bareChecks (f .uuid) (f .properties) ++ heldChecks (f .value))
+    ∷ (bareChecks (f .uuid) (f .properties) ++ rowValueChecks (f .value))
 
 -- the end of a snapshot of a subtree
 abbrev pub kthxbaiChecks : Bytes → Fields → List (Check Refusal)

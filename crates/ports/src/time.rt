@@ -1,8 +1,8 @@
 // The tick that a call is told.
 use answers::refusal::Refusal;
 use answers::refusal::Verdict;
-use names::numbers;
-use names::numbers::Tick;
+use numbers::tick;
+use numbers::tick::Tick;
 ghost use mathlib.Core.Path.{_≡_};
 ghost use Rattle.base.specs.Checks.{firstOf};
 ghost use Rattle.answers.specs.Refusals.{verdict};
@@ -12,10 +12,10 @@ ghost use Rattle.ports.specs.Ports.{tickChecks};
 pub fn check_tick(last: Tick, tick: Tick) -> Verdict
     ensures { λ r. ⌜ r ≡ verdict (firstOf (tickChecks (last .0) (tick .0))) ⌝ }
 {
-    if !numbers::is_time(tick) {
+    if !tick::is_time(tick) {
         return Verdict::Refuse(Refusal::BadTick);
     }
-    if tick.0 < last.0 {
+    if tick::is_before(tick, last) {
         return Verdict::Refuse(Refusal::BadTick);
     }
     Verdict::Accept

@@ -1,8 +1,7 @@
 // What an update may hold: key, UUID, properties and value.
 use answers::refusal::Refusal;
 use answers::refusal::Verdict;
-use names::keys;
-use names::lengths;
+use frame_forms::lengths;
 use properties::read::Lifetime;
 use properties::read::Properties;
 ghost use mathlib.Core.Path.{_≡_};
@@ -19,7 +18,8 @@ pub enum Update {
 
 // UUID, properties and value of an update.
 pub fn read_payload(uuid: &[u8], properties: &[u8], value: &[u8]) -> Update
-    ensures { λ r. ⌜ r ≡ updateOf (now (properties .entry)) (firstOf (payloadChecks (now (uuid .entry)) (now (properties .entry)) (now (value .entry)))) ⌝ }
+    ensures { λ r. ⌜ r ≡ updateOf (now (properties .entry))
+        (firstOf (payloadChecks (now (uuid .entry)) (now (properties .entry)) (now (value .entry)))) ⌝ }
 {
     if !lengths::is_uuid(uuid) {
         return Update::Refuse(Refusal::BadUuid);
@@ -35,7 +35,8 @@ pub fn read_payload(uuid: &[u8], properties: &[u8], value: &[u8]) -> Update
 
 // The same, where the lifetime does not matter.
 pub fn check_payload(uuid: &[u8], properties: &[u8], value: &[u8]) -> Verdict
-    ensures { λ r. ⌜ r ≡ verdict (firstOf (payloadChecks (now (uuid .entry)) (now (properties .entry)) (now (value .entry)))) ⌝ }
+    ensures { λ r. ⌜ r ≡ verdict (firstOf (payloadChecks (now (uuid .entry)) (now (properties .entry))
+        (now (value .entry)))) ⌝ }
 {
     match read_payload(uuid, properties, value) {
         Update::Refuse(r) => Verdict::Refuse(r),
@@ -45,7 +46,8 @@ pub fn check_payload(uuid: &[u8], properties: &[u8], value: &[u8]) -> Verdict
 
 // What a KVSET is written from: key, UUID, properties and value.
 pub fn check_update(key: &[u8], uuid: &[u8], properties: &[u8], value: &[u8]) -> Verdict
-    ensures { λ r. ⌜ r ≡ verdict (firstOf (updateChecks (now (key .entry)) (now (uuid .entry)) (now (properties .entry)) (now (value .entry)))) ⌝ }
+    ensures { λ r. ⌜ r ≡ verdict (firstOf (updateChecks (now (key .entry)) (now (uuid .entry)) (now (properties .entry))
+        (now (value .entry)))) ⌝ }
 {
     if !keys::is_key(key) {
         return Verdict::Refuse(Refusal::BadKey);

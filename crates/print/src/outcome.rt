@@ -3,25 +3,27 @@ use crate::line;
 use answers::answer;
 use answers::answer::Answer;
 use answers::answer::Kind;
-use answers::refusal;
+use base::bytes;
+use base::bytes::Position;
 
-// The name of a kind, with the number of the refusal where there is one.
+// The names of the kinds by their numbers, each in a column of eight bytes.
+const KINDS: u64 = 14;
+
+const COLUMN: usize = 8;
+
+const NAMES: [u8; 14 * COLUMN] =
+    *b"refused started applied stale   outside synced  live    heard   wrote   nothing found   absent  present gone    ";
+
+// The name of a kind, with the number of the refusal if there is one.
 fn kind(k: Kind) {
-    match k {
-        Kind::Refused(r, _) => line::number(b"refused ", refusal::refusal_number(r)),
-        Kind::Started(_) => line::text(b"started"),
-        Kind::Applied(_) => line::text(b"applied"),
-        Kind::Stale(_) => line::text(b"stale"),
-        Kind::Outside(_) => line::text(b"outside"),
-        Kind::Synced(_) => line::text(b"synced"),
-        Kind::Live(_) => line::text(b"live"),
-        Kind::Heard(_) => line::text(b"heard"),
-        Kind::Wrote(_) => line::text(b"wrote"),
-        Kind::Nothing(_) => line::text(b"nothing"),
-        Kind::Found(_) => line::text(b"found"),
-        Kind::Absent(_) => line::text(b"absent"),
-        Kind::Present(_) => line::text(b"present"),
-        Kind::Gone(_) => line::text(b"gone"),
+    let names = NAMES;
+    let column = bytes::behind(&names, COLUMN * (answer::kind_number(k) % KINDS) as usize);
+    if let Position::At(n) = bytes::find_byte(column, b' ') {
+        line::text(bytes::front(column, n));
+    }
+    let refusal = answer::refusal_in(k);
+    if refusal != 0 {
+        line::number(b" ", refusal);
     }
 }
 

@@ -23,15 +23,15 @@ use Rattle.frames.proofs.FrameLaws.{frame-length}
 use Rattle.frames.specs.Messages.{framesIn, frameLength, frame, partsOf, frameAt}
 use Rattle.messages.proofs.LengthLaws.{short-frame, value-frame}
 use Rattle.messages.specs.Fields.{Fields, fields, fieldsOf}
-use Rattle.names.proofs.UnderLaws.{key-short, subtree-short}
-use Rattle.names.specs.Keys.{isKey, isSubtree, under}
-use Rattle.names.specs.Lengths.{isIdentity}
-use Rattle.names.specs.Numbers.{maxSequence, isSequence}
-use Rattle.names.specs.Words.{wordIcanhaz, wordKthxbai, wordHugz}
+use Rattle.keys.proofs.UnderLaws.{key-short, subtree-short}
+use Rattle.keys.specs.Keys.{isKey, isSubtree, under}
+use Rattle.frame_forms.specs.Lengths.{isIdentity}
+use Rattle.numbers.specs.Sequences.{maxSequence, isSequence}
+use Rattle.frame_forms.specs.Words.{wordIcanhaz, wordKthxbai, wordHugz}
 use Rattle.parts.proofs.BuildLaws.{whole-read, broken-read, reads-back}
 use Rattle.parts.specs.Build.{Part, bodies, asFrames, complete, Bounded, holdable, heldIn, ReadsBack}
 use Rattle.parts.specs.declared.build.Built.{Built}
-use Rattle.ports.specs.Ports.{isNone, framed, payloadChecks, bareChecks, heldChecks, kvsetChecks, kvpubChecks, kvsyncChecks, kthxbaiChecks, hugzChecks, snapshotChecks, publishedChecks, icanhazChecks, kvsetPort, icanhazPort, snapshotPort, subscriberPort}
+use Rattle.ports.specs.Ports.{isNone, framed, payloadChecks, bareChecks, rowValueChecks, kvsetChecks, kvpubChecks, kvsyncChecks, kthxbaiChecks, hugzChecks, snapshotChecks, publishedChecks, icanhazChecks, kvsetPort, icanhazPort, snapshotPort, subscriberPort}
 use Rattle.ports.proofs.SizeLaws.{value-short, payload-short}
 use Rattle.rooms.specs.Rooms.{takes, Handed, Enough, updateRoom, requestRoom, snapshotRoom, AllRooms}
 
@@ -154,9 +154,9 @@ module _ (f : Fields) where
   module _ (subtree : Bytes) where
     kvsync-sizes : firstOf (kvsyncChecks subtree f) ≡ none → Sizes f 0 0
     kvsync-sizes e =
-        let b = both-passed (when (not (isKey (f .head))) BadKey ∷ when (not (under subtree (f .head))) BadSubtree ∷ when (not (isSequence (f .sequence))) BadSequence ∷ []) (bareChecks (f .uuid) (f .properties) ++ heldChecks (f .value)) e .1 in
-        let c = both-passed (bareChecks (f .uuid) (f .properties)) (heldChecks (f .value)) b in
-        bare-sizes f (key-test (f .head) (passed 0 (kvsyncChecks subtree f) e)) (sequence-short (f .sequence) (passed 2 (kvsyncChecks subtree f) e)) (c .0) (value-short (f .value) (passed 1 (heldChecks (f .value)) (c .1)))
+        let b = both-passed (when (not (isKey (f .head))) BadKey ∷ when (not (under subtree (f .head))) BadSubtree ∷ when (not (isSequence (f .sequence))) BadSequence ∷ []) (bareChecks (f .uuid) (f .properties) ++ rowValueChecks (f .value)) e .1 in
+        let c = both-passed (bareChecks (f .uuid) (f .properties)) (rowValueChecks (f .value)) b in
+        bare-sizes f (key-test (f .head) (passed 0 (kvsyncChecks subtree f) e)) (sequence-short (f .sequence) (passed 2 (kvsyncChecks subtree f) e)) (c .0) (value-short (f .value) (passed 1 (rowValueChecks (f .value)) (c .1)))
 
     kthxbai-sizes : isSubtree subtree ≡ true → same wordKthxbai (f .head) ≡ true → firstOf (kthxbaiChecks subtree f) ≡ none → Sizes f 0 0
     kthxbai-sizes g w e =

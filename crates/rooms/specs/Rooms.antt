@@ -10,7 +10,7 @@ use Rattle.base.specs.Bytes.{Bytes}
 use Rattle.base.specs.Checks.{Check, firstOf}
 use Rattle.base.specs.Logs.{Log}
 use Rattle.base.specs.Output.{largest}
-use Rattle.names.specs.Keys.{isSubtree}
+use Rattle.keys.specs.Keys.{isSubtree}
 use Rattle.parts.specs.Build.{Part, asFrames, Bounded, holdable, heldIn, Ran}
 use Rattle.parts.specs.declared.build.Built.{Built}
 use Rattle.ports.specs.Ports.{isNone, kvsetPort, icanhazPort, snapshotPort, subscriberPort}

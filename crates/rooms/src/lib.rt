@@ -1,4 +1,5 @@
-// How much room a message needs that is built for a port: with it the port takes the message exactly if it takes the parts.
+// How much room a message needs that is built for a port: with it the port takes the message exactly if it takes the
+// parts.
 
 // A KVSET at a server, and what is published at a client.
 pub const UPDATE_ROOM: usize = 521;

@@ -21,10 +21,10 @@ use Rattle.base.specs.Cuts.{pieces}
 use Rattle.base.specs.Octets.{octets, numberFrom, number}
 use Rattle.messages.proofs.RoundTrip.{Sizable, frames-back, fields-back}
 use Rattle.messages.specs.Fields.{Fields, bytesOf, fieldsOf, kvset, kvpub, kvsync, kthxbai, hugz}
-use Rattle.names.proofs.UnderLaws.{key-short, subtree-short}
-use Rattle.names.specs.Keys.{isKey, isSubtree, under}
-use Rattle.names.specs.Numbers.{maxSequence, isSequence}
-use Rattle.names.specs.Words.{wordKthxbai, wordHugz}
+use Rattle.keys.proofs.UnderLaws.{key-short, subtree-short}
+use Rattle.keys.specs.Keys.{isKey, isSubtree, under}
+use Rattle.numbers.specs.Sequences.{maxSequence, isSequence}
+use Rattle.frame_forms.specs.Words.{wordKthxbai, wordHugz}
 use Rattle.ports.specs.Ports.{framed, payloadChecks, kvsetChecks, kvsetPort, snapshotChecks, snapshotPort, publishedChecks, subscriberPort}
 use Rattle.ports.proofs.SizeLaws.{payload-short}
 use Rattle.round_trip.specs.RoundTrip.{Arrives, Numbered}

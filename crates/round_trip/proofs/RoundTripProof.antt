@@ -16,11 +16,11 @@ use Rattle.base.specs.Bytes.{Bytes, every}
 use Rattle.base.specs.Checks.Check.{when}
 use Rattle.base.specs.Checks.{Check, firstOf}
 use Rattle.cells.specs.Cells.{All}
-use Rattle.client_plan.specs.Calls.{writeIcanhaz, writeKvset}
-use Rattle.client_plan.specs.Output.{acceptedBytes as clientWrites, bytesFor as clientBytes}
-use Rattle.client_plan.specs.Refusals.{callChecks as clientChecks, refusalOf as clientRefusal}
+use Rattle.client_calls.specs.Calls.{writeIcanhaz, writeKvset}
+use Rattle.client_calls.specs.Output.{acceptedBytes as clientWrites, bytesFor as clientBytes}
+use Rattle.client_calls.specs.Refusals.{callChecks as clientChecks, refusalOf as clientRefusal}
 use Rattle.client_state.proofs.FormLaws.{good-client}
-use Rattle.client_state.specs.IllFormed.{illFormsOf as clientFaults}
+use Rattle.client_state.specs.IllFormed.{illForms as clientFaults}
 use Rattle.client_state.specs.Views.{subtreeOf, view as replica}
 use Rattle.client_state.specs.declared.Client.{Client}
 use Rattle.frames.proofs.RunLaws.{Whole, run-cut, joined-last}
@@ -28,12 +28,12 @@ use Rattle.frames.specs.Runs.{messagesIn}
 use Rattle.messages.proofs.RoundTrip.{identity-off, identity-on, request-on}
 use Rattle.frames.specs.Messages.{frameAt}
 use Rattle.messages.specs.Fields.{fieldsOf, bytesOf, kvset, kvpub, kvsync, kthxbai, icanhaz, withIdentity, withoutIdentity}
-use Rattle.names.proofs.UnderLaws.{subtree-short}
-use Rattle.names.specs.Keys.{isKey, isSubtree, under}
-use Rattle.names.specs.Lengths.{isIdentity}
+use Rattle.keys.proofs.UnderLaws.{subtree-short}
+use Rattle.keys.specs.Keys.{isKey, isSubtree, under}
+use Rattle.frame_forms.specs.Lengths.{isIdentity}
 use Rattle.base.specs.Octets.{octets}
-use Rattle.names.specs.Numbers.{maxSequence, isSequence}
-use Rattle.names.specs.Words.{wordIcanhaz, wordKthxbai}
+use Rattle.numbers.specs.Sequences.{maxSequence, isSequence}
+use Rattle.frame_forms.specs.Words.{wordIcanhaz, wordKthxbai}
 use Rattle.ports.specs.Ports.{framed, payloadChecks, updateChecks, kvsetChecks, kvsetPort, subscriberPort, snapshotPort, icanhazChecks, icanhazPort, tickChecks}
 use Rattle.properties.specs.Properties.{propertiesIn, propertiesOf, ttls}
 use Rattle.base.specs.Cuts.{pieces}
@@ -42,15 +42,15 @@ use Rattle.rows.specs.Rows.{Rows, keep, keysIn, hasKey, mapRows}
 use Rattle.round_trip.proofs.ArrivalLaws.{kvset-arrives, kvpub-arrives, hugz-arrives, sync-sizes, kvsync-arrives, end-sizes, kthxbai-arrives}
 use Rattle.round_trip.proofs.RowsLaws.{Proper, rows-proper, proper-keys, good-number, keep-all}
 use Rattle.round_trip.specs.RoundTrip.{Arrives, Numbered, Requested, TickArrives, SyncArrives, SnapshotArrives, RoundTrip}
-use Rattle.server_plan.specs.Calls.{kvset as update, tick, icanhaz as request}
-use Rattle.server_plan.specs.Deeds.{expire, beat, quiet, deed, deedOf}
-use Rattle.server_plan.specs.Output.{tickBytes, acceptedBytes as serverWrites, bytesFor as serverBytes}
-use Rattle.server_plan.specs.Refusals.{update as published, expiry, updateChecks as changeChecks, deedChecks, valueLength, snapshotChecks, callChecks as serverChecks, refusalOf as serverRefusal}
-use Rattle.server_state.proofs.DueLaws.{due-key}
+use Rattle.server_calls.specs.Calls.{kvset as update, tick, icanhaz as request}
+use Rattle.server_calls.specs.Deeds.{expire, beat, quiet, deed, deedOf}
+use Rattle.server_calls.specs.Output.{tickBytes, acceptedBytes as serverWrites, bytesFor as serverBytes}
+use Rattle.server_calls.specs.Refusals.{update as published, expiry, storeChecks, deedChecks, heldLength, roomChecks, callChecks as serverChecks, refusalOf as serverRefusal}
+use Rattle.server_calls.proofs.DueLaws.{due-key}
 use Rattle.server_state.proofs.FormLaws.{GoodServer, good-server}
-use Rattle.server_state.specs.Due.{leastDue}
-use Rattle.server_state.specs.IllFormed.{illFormsOf as serverFaults}
-use Rattle.server_state.specs.Snapshots.{sync, thanks, syncs, snapshotBytes}
+use Rattle.server_calls.specs.Due.{leastDue}
+use Rattle.server_state.specs.IllFormed.{illForms as serverFaults}
+use Rattle.server_calls.specs.Snapshots.{sync, thanks, syncs, snapshotBytes}
 use Rattle.server_state.specs.Views.{Entry, plain, SizedServer, view, ledgerOf}
 use Rattle.server_state.specs.declared.Server.{Server}
 
@@ -96,7 +96,7 @@ nothing-more = refl
 module _ (s : Server) where
   abbrev change : Bytes → ℕ → List (Check Refusal)
   change msg room =
-      changeChecks (hasKey (frameAt 0 msg) (ledgerOf (view s) .rows)) (length (ledgerOf (view s) .rows)) (ledgerOf (view s) .number) (fieldsOf msg) room
+      storeChecks (hasKey (frameAt 0 msg) (ledgerOf (view s) .rows)) (length (ledgerOf (view s) .rows)) (ledgerOf (view s) .number) (fieldsOf msg) room
 
   server-update : (msg : Bytes) (t room : ℕ) → serverRefusal s (update msg t room) ≡ none
       → Numbered subscriberPort (serverBytes s (update msg t room))
@@ -180,10 +180,10 @@ module _ (s : Server) (z : SizedServer s) (msg : Bytes) (room : ℕ) where
       → SnapshotArrives (serverBytes s (request msg room)) (frameAt 0 msg) (frameAt 2 msg) (view s .number) (view s .rows)
   unfolding serverRefusal serverChecks serverBytes serverWrites
   server-snapshot e =
-      let lengths = mapRows valueLength (ledgerOf (view s) .rows) in
+      let lengths = mapRows heldLength (ledgerOf (view s) .rows) in
       let a = both-passed (serverFaults s) (serverChecks (ledgerOf (view s)) (request msg room)) e in
       let g = good-server s (a .0) in
-      let b = both-passed (icanhazPort msg) (snapshotChecks lengths (frameAt 0 msg) (frameAt 2 msg) room) (a .1) .0 in
+      let b = both-passed (icanhazPort msg) (roomChecks lengths (frameAt 0 msg) (frameAt 2 msg) room) (a .1) .0 in
       let d = both-passed (framed 3 msg) (icanhazChecks (frameAt 0 msg) (frameAt 1 msg) (frameAt 2 msg)) b .1 in
       let asked = icanhazChecks (frameAt 0 msg) (frameAt 1 msg) (frameAt 2 msg) in
       rw e (snapshot-arrives (frameAt 0 msg) (frameAt 2 msg) (not-false _ (passed 0 asked d)) (view s .number) (not-false _ (passed 2 asked d)) (good-number s g) (view s .rows) (rows-proper s z g))

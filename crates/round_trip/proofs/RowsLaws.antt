@@ -1,55 +1,60 @@
 -- The rows that a well-formed server holds: each has a key, and a value of 1 to 256 bytes; and what a part of them under a subtree keeps. Assumes nothing.
-use Prim.Native.Nat.{ℕ, _≤_}
+use Prim.Native.Nat.{ℕ, _≤_, _<_}
 use native.Mathlib.Omega.{arith}
 use mathlib.Core.Bool.{Bool, true, false, cond}
 use mathlib.Core.List.{List, [], _∷_, zipWith}
-use mathlib.Core.Path.{_≡_, refl, ap}
-use lib.Dec.{leb}
-use lib.ListN.{length, take}
-use borrow.Author.Tests.{leb-true}
+use mathlib.Core.Path.{_≡_, refl}
+use lib.ListN.{length}
 use Rattle.base.proofs.ByteLaws.{and-left, and-right}
 use Rattle.base.specs.Bytes.{Bytes, isNil, every}
-use Rattle.cells.specs.Cells.{All}
-use Rattle.names.specs.Keys.{isKey}
-use Rattle.names.specs.Numbers.{maxSequence}
-use Rattle.rows.specs.Rows.{Rows, keep, keysIn, mapRows}
+use Rattle.cells.proofs.ListLaws.{all-from}
+use Rattle.cells.specs.Cells.{All, cells, cellAt}
+use Rattle.keys.specs.Keys.{isKey}
+use Rattle.numbers.specs.Sequences.{maxSequence}
+use Rattle.row_cells.proofs.TextLaws.{values-long, value-is, fitting-at, value-least, value-most, value-length}
+use Rattle.row_cells.specs.Faults.{GoodRows}
+use Rattle.row_cells.specs.Sizes.{byteCount, lengthCount}
+use Rattle.row_cells.specs.Texts.{row, rowsOf, rowValue, valuesOf}
+use Rattle.rows.specs.Rows.{Rows, keep, keysIn}
 use Rattle.server_state.proofs.FormLaws.{GoodServer}
-use Rattle.server_state.proofs.SnapshotLaws.{server-lengths}
-use Rattle.server_state.specs.Views.{Entry, SizedServer, keysOf, heldOf, view}
+use Rattle.server_state.specs.Stamps.{stampCount}
+use Rattle.server_state.specs.Views.{Entry, SizedServer, entry, keyList, entryList, view}
 use Rattle.server_state.specs.declared.Server.{Server}
-use Rattle.table.specs.Columns.{rowsOf, within}
 
 -- a row as a server may hold it
 abbrev pub Proper : Bytes × Entry → Type 0
 Proper r = (isKey (r .0) ≡ true) × ((isNil (r .1 .value) ≡ false) × (length (r .1 .value) ≤ 256))
 
-some-value : (value : Bytes) → within 1 256 (length value) ≡ true → (isNil value ≡ false) × (length value ≤ 256)
-some-value [] e = absurd (omega (arith, leb-true 1 0 (and-left (leb 1 0) (leb 0 256) e)))
-some-value (b ∷ value) e = (refl, leb-true (length (b ∷ value)) 256 (and-right (leb 1 (length (b ∷ value))) (leb (length (b ∷ value)) 256) e))
+abbrev Good : Bytes → Type 0
+Good value = (isNil value ≡ false) × (length value ≤ 256)
 
-behind-first : {A : Type 0} (a b : A) (l m : List A) → _≡_ {A = List A} (a ∷ l) (b ∷ m) → (a ≡ b) × (l ≡ m)
-behind-first a b l m e = (cc, cc)
+some-value : (value : Bytes) → 1 ≤ length value → length value ≤ 256 → Good value
+some-value [] h k = absurd (omega (arith, h))
+some-value (b ∷ value) h k = (refl, k)
 
--- by the keys, and the lengths of the values
-abbrev valueLength : Entry → ℕ
-valueLength e = length (e .value)
+values-good : (n : ℕ) (bytes : Bytes) (lengths : List ℕ) → length bytes ≡ byteCount → GoodRows n bytes lengths → All Good (valuesOf n bytes lengths)
+values-good n bytes lengths z g =
+    all-from Good (valuesOf n bytes lengths) []
+    (λ i h.
+    let k : i < n = rw (values-long n bytes lengths) at h in
+    let few = g .few in
+    let fits = fitting-at n lengths (g .fit) i k in
+    let long = value-length bytes lengths i z (omega arith) fits in
+    rw (value-is n bytes lengths i k) (some-value (rowValue i bytes lengths) (rw long (value-least (cellAt lengthCount i lengths) fits)) (rw long (value-most (cellAt lengthCount i lengths) fits))))
 
-proper : (rows : Rows Entry) (keys : List Bytes) (lens : List ℕ) → mapRows valueLength rows ≡ rowsOf keys lens → every isKey keys ≡ true → every (within 1 256) lens ≡ true → All Proper rows
-unfolding mapRows rowsOf every zipWith
-proper [] keys lens e k v = tt
-proper (r ∷ rows) [] lens e k v = absurd (let z : _≡_ {A = ℕ} 0 1 = cc in omega arith)
-proper (r ∷ rows) (key ∷ keys) [] e k v = absurd (let z : _≡_ {A = ℕ} 0 1 = cc in omega arith)
-proper (r ∷ rows) (key ∷ keys) (n ∷ lens) e k v =
-    let q : (_≡_ {A = Bytes × ℕ} (r .0, length (r .1 .value)) (key, n)) × (mapRows valueLength rows ≡ rowsOf keys lens) = behind-first _ _ _ _ e in
-    let key-is : r .0 ≡ key = ap (λ (p : Bytes × ℕ). p .0) (q .0) in
-    let length-is : length (r .1 .value) ≡ n = ap (λ (p : Bytes × ℕ). p .1) (q .0) in (
-      (rw key-is (and-left (isKey key) (every isKey keys) k), some-value (r .1 .value) (rw length-is (and-left (within 1 256 n) (every (within 1 256) lens) v))),
-      proper rows keys lens (q .1) (and-right (isKey key) (every isKey keys) k) (and-right (within 1 256 n) (every (within 1 256) lens) v),
-    )
+proper : (keys values : List Bytes) (stamps : List (List ℕ)) → every isKey keys ≡ true → All Good values → All Proper (zipWith row keys (zipWith entry values stamps))
+unfolding every zipWith
+proper [] values stamps k v = tt
+proper (key ∷ keys) [] stamps k v = tt
+proper (key ∷ keys) (value ∷ values) [] k v = tt
+proper (key ∷ keys) (value ∷ values) (s ∷ stamps) k v =
+    ((and-left (isKey key) (every isKey keys) k, v .0), proper keys values stamps (and-right (isKey key) (every isKey keys) k) (v .1))
 
 pub rows-proper : (s : Server) → SizedServer s → GoodServer s → All Proper (view s .rows)
-unfolding view
-rows-proper s z g = proper (rowsOf (keysOf s) (heldOf s)) (keysOf s) (take (s .table .count) (s .table .«value_lengths»)) (server-lengths s z g) (g .rows .are-keys) (g .rows .value-lengths)
+unfolding view rowsOf entryList
+rows-proper s z g =
+    let n = s .header .count in
+    proper (keyList s) (valuesOf n (s .bytes) (s .lengths)) (cells stampCount n (s .stamps)) (g .rows .are-keys) (values-good n (s .bytes) (s .lengths) (z .bytes) (g .rows))
 
 pub good-number : (s : Server) → GoodServer s → view s .number ≤ maxSequence
 unfolding view

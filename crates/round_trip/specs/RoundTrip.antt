@@ -11,24 +11,24 @@ use Rattle.base.specs.Bytes.{Bytes}
 use Rattle.base.specs.Checks.{Check, firstOf}
 use Rattle.base.specs.Octets.{number}
 use Rattle.cells.specs.Cells.{All}
-use Rattle.client_plan.specs.Calls.{writeIcanhaz, writeKvset}
-use Rattle.client_plan.specs.Output.{bytesFor as clientBytes}
-use Rattle.client_plan.specs.Refusals.{refusalOf as clientRefusal}
+use Rattle.client_calls.specs.Calls.{writeIcanhaz, writeKvset}
+use Rattle.client_calls.specs.Output.{bytesFor as clientBytes}
+use Rattle.client_calls.specs.Refusals.{refusalOf as clientRefusal}
 use Rattle.client_state.specs.Views.{subtreeOf}
 use Rattle.client_state.specs.declared.Client.{Client}
 use Rattle.frames.specs.Messages.{framesIn, frameAt}
 use Rattle.frames.specs.Runs.{messagesIn}
 use Rattle.messages.specs.Fields.{Fields, fieldsOf, kvset, kvpub, kvsync, kthxbai, hugz, withIdentity, withoutIdentity}
-use Rattle.names.specs.Keys.{under}
-use Rattle.names.specs.Lengths.{isIdentity}
-use Rattle.names.specs.Words.{wordIcanhaz}
+use Rattle.keys.specs.Keys.{under}
+use Rattle.frame_forms.specs.Lengths.{isIdentity}
+use Rattle.frame_forms.specs.Words.{wordIcanhaz}
 use Rattle.ports.specs.Ports.{kvsetPort, icanhazPort, snapshotPort, subscriberPort}
 use Rattle.rows.specs.Rows.{Rows, keep}
-use Rattle.server_plan.specs.Calls.{kvset as update, tick, icanhaz}
-use Rattle.server_plan.specs.Deeds.{Deed, expire, beat, quiet, deed}
-use Rattle.server_plan.specs.Output.{bytesFor as serverBytes}
-use Rattle.server_plan.specs.Refusals.{refusalOf as serverRefusal}
-use Rattle.server_state.specs.Snapshots.{sync, thanks}
+use Rattle.server_calls.specs.Calls.{kvset as update, tick, icanhaz}
+use Rattle.server_calls.specs.Deeds.{Deed, expire, beat, quiet, deed}
+use Rattle.server_calls.specs.Output.{bytesFor as serverBytes}
+use Rattle.server_calls.specs.Refusals.{refusalOf as serverRefusal}
+use Rattle.server_calls.specs.Snapshots.{sync, thanks}
 use Rattle.server_state.specs.Views.{Entry, SizedServer, view, ledgerOf}
 use Rattle.server_state.specs.declared.Server.{Server}
 

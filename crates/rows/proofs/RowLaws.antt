@@ -10,10 +10,10 @@ use mathlib.Core.Path.{_≡_, refl, sym, ap, _∙_}
 use lib.ListN.{length}
 use Rattle.base.proofs.ByteLaws.{and-left, and-right, same-eq, same-refl}
 use Rattle.base.specs.Bytes.{Bytes, same, every}
-use Rattle.names.proofs.OrderLaws.{order-self, order-flip, order-equal, order-trans, flipped}
-use Rattle.names.specs.Order.{orderOf}
-use Rattle.names.specs.declared.order.Order.the-variants.{Less, Equal, Greater}
-use Rattle.names.specs.declared.order.Order.{Order}
+use Rattle.key_order.proofs.OrderLaws.{order-self, order-flip, order-equal, order-trans, flipped}
+use Rattle.key_order.specs.Order.{orderOf}
+use Rattle.key_order.specs.declared.Order.the-variants.{Less, Equal, Greater}
+use Rattle.key_order.specs.declared.Order.{Order}
 use Rattle.rows.specs.Rows.{Rows, setRow, removeRow, place, part, keep, hasKey, heldUnder, Above, Sorted, mapRows, rising, isLess, keysIn}
 
 -- ---- the order of two keys

@@ -4,9 +4,9 @@ use mathlib.Core.List.{List, [], _∷_}
 use mathlib.Core.Option.{Option, none, some}
 use mathlib.Core.Path.{_≡_}
 use Rattle.base.specs.Bytes.{Bytes, same}
-use Rattle.names.specs.Order.{orderOf}
-use Rattle.names.specs.declared.order.Order.the-variants.{Less, Equal, Greater}
-use Rattle.names.specs.declared.order.Order.{Order}
+use Rattle.key_order.specs.Order.{orderOf}
+use Rattle.key_order.specs.declared.Order.the-variants.{Less, Equal, Greater}
+use Rattle.key_order.specs.declared.Order.{Order}
 
 abbrev pub Rows : Type 0 → Type 0
 Rows A = List (Bytes × A)

@@ -12,7 +12,8 @@ use lib.Seq.{drop-cons}
 use borrow.Author.Tests.{leb-true, leb-false, le-leb, lt-leb}
 use Rattle.base.specs.Bytes.{Bytes}
 use Rattle.base.specs.Output.{largest}
-use Rattle.script.specs.Numbers.{isDigit, digitsIn, decimal, textNumber, withDigit, withByte}
+use Rattle.properties.specs.Decimals.{isDigit}
+use Rattle.script.specs.Numbers.{digitsIn, decimal, textNumber, withDigit, withByte}
 
 -- ---- one byte more
 module _ (n b : ℕ) where

@@ -1,14 +1,11 @@
 -- Numbers written in decimal.
 use Prim.Native.Nat.{ℕ, _+_, _-_, _*_, _^_, min}
-use mathlib.Core.Bool.{Bool, cond, _&&_}
+use mathlib.Core.Bool.{cond}
 use mathlib.Core.List.{List, [], _∷_}
-use lib.Dec.{leb}
 use lib.ListN.{length}
 use Rattle.base.specs.Bytes.{Bytes}
 use Rattle.base.specs.Output.{largest}
-
-abbrev pub isDigit : ℕ → Bool
-isDigit b = leb 48 b && leb b 57
+use Rattle.properties.specs.Decimals.{isDigit}
 
 -- the values of the digits of a text; every other byte is passed over
 unfoldable pub digitsIn : Bytes → List ℕ

@@ -1,15 +1,14 @@
 // The server's port for ICANHAZ, with the identity in front.
 use answers::refusal::Refusal;
 use answers::refusal::Verdict;
+use frame_forms::lengths;
+use frame_forms::words;
 use framing::Places;
 use framing::Split;
 use messages::IDENTITY;
 use messages::REQUEST_FRAMES;
 use messages::SUBTREE;
 use messages::WORD;
-use names::keys;
-use names::lengths;
-use names::words;
 use ports::frame_count::check_framing;
 ghost use mathlib.Core.Path.{_≡_};
 ghost use Rattle.answers.specs.Refusals.{verdict};
@@ -20,7 +19,8 @@ ghost use Rattle.ports.specs.Ports.{icanhazChecks};
 
 // The frames of an ICANHAZ behind its identity.
 fn check_icanhaz_frames(msg: &[u8], places: Places) -> Verdict
-    ensures { λ r. ⌜ r ≡ verdict (firstOf (icanhazChecks (bodyIn (now (msg .entry)) places 0) (bodyIn (now (msg .entry)) places 1) (bodyIn (now (msg .entry)) places 2))) ⌝ }
+    ensures { λ r. ⌜ r ≡ verdict (firstOf (icanhazChecks (bodyIn (now (msg .entry)) places 0)
+        (bodyIn (now (msg .entry)) places 1) (bodyIn (now (msg .entry)) places 2))) ⌝ }
 {
     if !lengths::is_identity(framing::body(msg, places, IDENTITY)) {
         return Verdict::Refuse(Refusal::BadIdentity);

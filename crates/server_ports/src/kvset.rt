@@ -9,9 +9,8 @@ use messages::PROPERTIES;
 use messages::SEQUENCE;
 use messages::UUID;
 use messages::VALUE;
-use names::keys;
-use names::numbers;
-use names::numbers::Numbered;
+use numbers::sequence;
+use numbers::sequence::Numbered;
 use ports::frame_count::check_framing;
 use ports::update::Update;
 use ports::update::read_payload;
@@ -23,12 +22,13 @@ ghost use Rattle.ports.specs.Ports.{kvsetChecks};
 
 // The frames of a KVSET.
 fn read_kvset_frames(msg: &[u8], places: Places) -> Update
-    ensures { λ r. ⌜ r ≡ updateOf (bodyIn (now (msg .entry)) places 3) (firstOf (kvsetChecks (fieldsAt (now (msg .entry)) places))) ⌝ }
+    ensures { λ r. ⌜ r ≡ updateOf (bodyIn (now (msg .entry)) places 3)
+        (firstOf (kvsetChecks (fieldsAt (now (msg .entry)) places))) ⌝ }
 {
     if !keys::is_key(framing::body(msg, places, HEAD)) {
         return Update::Refuse(Refusal::BadKey);
     }
-    let Numbered::By(_) = numbers::read_sequence(framing::body(msg, places, SEQUENCE)) else {
+    let Numbered::By(_) = sequence::read_sequence(framing::body(msg, places, SEQUENCE)) else {
         return Update::Refuse(Refusal::BadSequence);
     };
     read_payload(
@@ -40,7 +40,8 @@ fn read_kvset_frames(msg: &[u8], places: Places) -> Update
 
 // The server's port for KVSET: the lifetime that an update asks for.
 pub fn read_kvset(msg: &[u8], split: Split) -> Update
-    ensures { λ r. ⌜ r ≡ updateOf (bodyIn (now (msg .entry)) (split .places) 3) (firstOf (kvsetBy (now (msg .entry)) split)) ⌝ }
+    ensures { λ r. ⌜ r ≡ updateOf (bodyIn (now (msg .entry)) (split .places) 3)
+        (firstOf (kvsetBy (now (msg .entry)) split)) ⌝ }
 {
     let framing = split.framing;
     match check_framing(framing, FRAMES) {

@@ -1,4 +1,2 @@
-pub mod DueLaws
 pub mod FormLaws
-pub mod SnapshotLaws
 pub mod StateLaws

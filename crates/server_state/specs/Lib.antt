@@ -1,5 +1,3 @@
-pub mod Due
-pub mod DuePlaces
 pub mod IllFormed
-pub mod Snapshots
+pub mod Stamps
 pub mod Views

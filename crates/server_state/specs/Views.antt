@@ -1,14 +1,16 @@
 -- What a server's state is, besides its bits: its number, its two clocks, and its rows in key order.
 use Prim.Native.Nat.{ℕ}
-use mathlib.Core.Bool.{cond}
 use mathlib.Core.List.{List, zipWith}
+use mathlib.Core.Option.{Option}
 use mathlib.Core.Path.{_≡_}
-use mathlib.Core.Option.{Option, none, some}
-use lib.Dec.{eqb}
-use lib.ListN.{length, take}
+use lib.ListN.{length}
 use Rattle.base.specs.Bytes.{Bytes}
+use Rattle.cells.specs.Cells.{cells}
+use Rattle.row_cells.specs.Sizes.{lengthCount, byteCount, wordCount}
+use Rattle.row_cells.specs.Texts.{keysOf, valuesOf, rowsOf}
 use Rattle.rows.specs.Rows.{Rows, mapRows}
-use Rattle.table.specs.Columns.{texts, rowsOf, SizedTable}
+use Rattle.server_state.specs.Stamps.{stampCount, stampNumber, stampExpiry, expiryIn}
+use Rattle.server_state.specs.declared.Header.{Header}
 use Rattle.server_state.specs.declared.Server.{Server}
 
 -- what is held under a key: a value, and the tick that it expires at, if any
@@ -29,42 +31,38 @@ pub record Ledger (A : Type 0) : Type 0 where
   pub lastPublished : ℕ
   pub rows : Rows A
 
--- ---- what the columns of a server hold
--- the expiry of a row that does not expire
-abbrev pub never : ℕ
-never = 18446744073709551615
+-- ---- a state
+-- the state whose arrays are lent one by one, with its header beside them
+abbrev pub lent : Bytes → List ℕ → List ℕ → Header → Server
+lent bytes lengths stamps header = record { bytes = bytes; lengths = lengths; stamps = stamps; header = header }
 
-abbrev pub expiryIn : ℕ → Option ℕ
-expiryIn e = cond (eqb e never) none (some e)
-
-abbrev pub stamp : ℕ → ℕ → ℕ × ℕ
-stamp number expiry = (number, expiry)
-
-abbrev pub entry : Bytes → ℕ × ℕ → Entry
-entry value s = record { value = value; expiry = expiryIn (s .1); number = s .0 }
-
--- the first n entries: values with their lengths, numbers, expiries
-unfoldable pub entriesOf : ℕ → Bytes → List ℕ → List ℕ → List ℕ → List Entry
-entriesOf n values lengths numbers expiries = zipWith entry (texts 256 n lengths values) (zipWith stamp (take n numbers) (take n expiries))
-
-abbrev pub keysOf : Server → List Bytes
-keysOf s = texts 96 (s .table .count) (s .table .«key_lengths») (s .table .keys)
-
-abbrev pub heldOf : Server → List Entry
-heldOf s = entriesOf (s .table .count) (s .table .values) (s .table .«value_lengths») (s .numbers) (s .expiries)
-
--- how long the columns are, as in every server
+-- a state whose arrays have their sizes, as those of every Server that a function is given
 pub record SizedServer (s : Server) : Type 0 where
-  pub table : SizedTable (s .table)
-  pub numbers : length (s .numbers) ≡ 64
-  pub expiries : length (s .expiries) ≡ 64
+  pub bytes : length (s .bytes) ≡ byteCount
+  pub lengths : length (s .lengths) ≡ wordCount lengthCount
+  pub stamps : length (s .stamps) ≡ wordCount stampCount
+
+-- of a value and the stamps of its row
+abbrev pub entry : Bytes → List ℕ → Entry
+entry value stamps = record { value = value; expiry = expiryIn (stampExpiry stamps); number = stampNumber stamps }
+
+-- the keys of its rows, and what it holds under them
+abbrev pub keyList : Server → List Bytes
+keyList s = keysOf (s .header .count) (s .bytes) (s .lengths)
+
+unfoldable pub entryList : Server → List Entry
+entryList s = zipWith entry (valuesOf (s .header .count) (s .bytes) (s .lengths)) (cells stampCount (s .header .count) (s .stamps))
+
+-- and its rows
+abbrev pub rowList : Server → Rows Entry
+rowList s = rowsOf (keyList s) (entryList s)
 
 unfoldable pub view : Server → Ledger Entry
 view s = record {
   number = s .header .number .0;
   lastTick = s .header .«last_tick» .0;
   lastPublished = s .header .«last_published» .0;
-  rows = rowsOf (keysOf s) (heldOf s);
+  rows = rowList s;
 }
 
 -- ---- what the refusals read of it

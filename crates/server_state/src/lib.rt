@@ -1,30 +1,36 @@
-// The state of a server: its rows, its number and its clocks; the test of a state; which row is due; the snapshot of a subtree.
-use names::numbers::Sequence;
-use names::numbers::Tick;
-use table::Table;
+// The state of a server: rows, each with a number and an expiry beside its key and its value; and a header.
+use numbers::sequence::Sequence;
+use numbers::tick::Tick;
+use row_cells::MAX_ROWS;
+use row_cells::RowBytes;
+use row_cells::RowLengths;
 
-pub mod due;
-pub mod snapshot;
-pub mod test;
+pub mod expiry;
+pub mod stamps;
+pub mod validate;
 
-// The expiry of a row that does not expire, and the latest of one that does.
-pub const NEVER: u64 = 18446744073709551615;
+// The stamps of a row: the number of its last set, and its expiry.
+pub const STAMPS: usize = 2;
 
-pub const MAX_EXPIRY: u64 = 4611686018513787904;
+pub const NUMBER: usize = 0;
 
-// The number of the last update, and the times of the last call with a tick and of the last publication.
-#[repr(C)]
+pub const EXPIRY: usize = 1;
+
+pub type RowStamps = [u64; MAX_ROWS * STAMPS];
+
+// The number of the last update, the times of the last call with a tick and of the last publication, and how many rows
+// there are.
 pub struct Header {
     pub number: Sequence,
     pub last_tick: Tick,
     pub last_published: Tick,
+    pub count: usize,
 }
 
-// Beside the key and the value of each row stand the number of its last set and its expiry.
-#[repr(C)]
+// Row i has cell i of each array.
 pub struct Server {
-    pub table: Table,
-    pub numbers: [u64; 64],
-    pub expiries: [u64; 64],
+    pub bytes: RowBytes,
+    pub lengths: RowLengths,
+    pub stamps: RowStamps,
     pub header: Header,
 }

@@ -12,7 +12,7 @@ mod build;
 mod judge;
 
 use base::bytes;
-use names::numbers::Sequence;
+use numbers::sequence::Sequence;
 
 fn main() {
     written();

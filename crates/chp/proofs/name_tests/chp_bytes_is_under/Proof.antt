@@ -1,5 +1,4 @@
 -- `chp::name_tests::chp_bytes_is_under` meets its contract: the answer of the test, as a number. Assumes nothing.
-use Prim.Native.Nat.{ℕ}
 use mathlib.Core.Bool.{Bool, cond}
 use mathlib.Core.Path.{ap, _∙_}
 use borrow.Author.Needs.{needs}

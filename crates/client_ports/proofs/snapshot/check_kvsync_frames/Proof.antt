@@ -11,10 +11,10 @@ use Rattle.answers.specs.declared.refusal.Verdict.{Verdict}
 use Rattle.base.proofs.CheckLaws.{Left, pass, stop, pass-table, stop-table}
 use Rattle.base.specs.Checks.{Check, firstOf}
 use Rattle.framing.specs.Splits.{bodyIn}
-use Rattle.names.specs.Keys.{isKey, under}
+use Rattle.keys.specs.Keys.{isKey, under}
 use Rattle.ports.proofs.PortLaws.{told, unnumbered-stop, numbered-pass}
 use Rattle.ports.specs.Bodies.{fieldsAt}
-use Rattle.ports.specs.Ports.{bareChecks, heldChecks, kvsyncChecks}
+use Rattle.ports.specs.Ports.{bareChecks, rowValueChecks, kvsyncChecks}
 use borrow.Author.Needs.{needs}
 use Rattle.client_ports.proofs.snapshot.check_kvsync_frames.Statement.{statement}
 use Rattle.client_ports.proofs.snapshot.check_kvsync_frames.Tie as tie
@@ -32,7 +32,7 @@ abbrev bare : tie.Start → List (Check Refusal)
 bare s = bareChecks (bodyIn (now (s .args .msg)) (s .args .places) 2) (bodyIn (now (s .args .msg)) (s .args .places) 3)
 
 abbrev held : tie.Start → List (Check Refusal)
-held s = heldChecks (bodyIn (now (s .args .msg)) (s .args .places) 4)
+held s = rowValueChecks (bodyIn (now (s .args .msg)) (s .args .places) 4)
 
 past-key : (c : tie.Else1) → Left verdict (answer (c .before .before .before .before .before)) (drop 1 (table (c .before .before .before .before .before)))
 past-key c = pass (whole (c .before .before .before .before .before)) (told (c .before .before .body .ensures) isKey (c .before .is-key .ensures) (c .if1 .left))
@@ -88,14 +88,14 @@ enum-told-3 c = search needs
 body-requires-3 : tie.Need-body-requires-3
 body-requires-3 c κs = search needs
 
-check-held-requires : tie.Need-check-held-requires
-check-held-requires c κs = search needs
+check-row-value-requires : tie.Need-check-row-value-requires
+check-row-value-requires c κs = search needs
 
 returns-4 : tie.Need-returns-4
 returns-4 c = stop-table (bare (c .before .before .before .before .before .before .before .before .before .before .before .before .before .before .before)) (held (c .before .before .before .before .before .before .before .before .before .before .before .before .before .before .before)) (past-sequence (c .before .before .before .before)) (refused _ _ (sym (c .before .r .given .1) ∙ c .before .before .before .check-bare .ensures))
 
 returns-5 : tie.Need-returns-5
-returns-5 c = c .check-held .ensures ∙ rw (c .before .body3 .ensures) (sym (past-bare (c .before .before) .is))
+returns-5 c = c .check-row-value .ensures ∙ rw (c .before .body3 .ensures) (sym (past-bare (c .before .before) .is))
 
 pub check-kvsync-frames-spec : {M : Type 1} → statement M
 check-kvsync-frames-spec =
@@ -115,6 +115,6 @@ check-kvsync-frames-spec =
     enum-known-r
     enum-told-3
     body-requires-3
-    check-held-requires
+    check-row-value-requires
     returns-4
     returns-5)

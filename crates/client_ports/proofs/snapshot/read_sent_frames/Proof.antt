@@ -12,7 +12,7 @@ use Rattle.ports.specs.Bodies.{fieldsAt}
 use Rattle.ports.specs.Ports.{kvsyncChecks}
 use Rattle.client_ports.specs.Readings.{rowOf, sentOf}
 use Rattle.framing.specs.Splits.{bodyIn}
-use Rattle.names.specs.Words.{wordKthxbai}
+use Rattle.frame_forms.specs.Words.{wordKthxbai}
 use Rattle.client_ports.proofs.snapshot.read_sent_frames.Statement.{statement}
 use Rattle.client_ports.proofs.snapshot.read_sent_frames.Tie as tie
 

@@ -4,21 +4,20 @@ use mathlib.Core.Bool.{not}
 use mathlib.Core.List.{List, [], _∷_}
 use mathlib.Core.Path.{_≡_, refl, sym, ap, _∙_}
 use lib.ListN.{drop}
-use borrow.Author.Tests.{eq-eqb, ne-eqb}
 use denote.Ref.{now}
 use Rattle.answers.proofs.VerdictLaws.{accepted, refused}
 use Rattle.answers.specs.declared.refusal.Refusal.the-variants.{BadValue}
 use Rattle.answers.specs.Refusals.{verdict}
 use Rattle.answers.specs.declared.refusal.Refusal.{Refusal}
 use Rattle.answers.specs.declared.refusal.Verdict.{Verdict}
-use Rattle.base.proofs.CheckLaws.{Left, pass, stop, done, pass-table, stop-table}
+use Rattle.base.proofs.CheckLaws.{Left, pass, stop, done, asked, pass-table, stop-table}
 use Rattle.base.specs.Checks.{Check, firstOf}
 use Rattle.base.specs.Bytes.{isNil}
 use Rattle.base.specs.Checks.Check.{when}
 use Rattle.base.specs.Octets.{number}
 use Rattle.framing.specs.Splits.{bodyIn}
-use Rattle.names.specs.Numbers.{numberedOf}
-use Rattle.names.specs.declared.numbers.Numbered.the-variants.{By}
+use Rattle.numbers.specs.Sequences.{numberedOf}
+use Rattle.numbers.specs.declared.sequence.Numbered.the-variants.{By}
 use Rattle.ports.proofs.PortLaws.{empty-pass, empty-stop, unnumbered-stop, numbered-pass, number-is}
 use Rattle.ports.specs.Bodies.{fieldsAt}
 use Rattle.ports.specs.Ports.{bareChecks, hugzChecks}
@@ -51,7 +50,7 @@ number-told : (c : tie.After-n) → number (bodyIn (now (c .before .before .befo
 number-told c = number-is (c .before .before .before .body .ensures) _ (numbered-by c)
 
 past-sequence : (c : tie.Else1) → Left verdict (answer (c .before .before .before .before .before .before .before .before)) (drop 2 (table (c .before .before .before .before .before .before .before .before)))
-past-sequence c = pass (past-length (c .before .before .before)) (rw (number-told (c .before .before .before), eq-eqb _ 0 (c .if1 .left)))
+past-sequence c = pass (past-length (c .before .before .before)) (rw (number-told (c .before .before .before)) (asked (c .before .is-zero .ensures) (c .if1 .left)))
 
 past-bare : (c : tie.After-enum-told2) → Left verdict (answer (c .before .before .before .before .before .before .before .before .before .before .before)) (empty (c .before .before .before .before .before .before .before .before .before .before .before))
 past-bare c = pass-table (bare (c .before .before .before .before .before .before .before .before .before .before .before)) (empty (c .before .before .before .before .before .before .before .before .before .before .before)) (past-sequence (c .before .before .before)) (accepted _ (sym (c .enum-told2 .given .1) ∙ c .before .before .check-bare .ensures))
@@ -71,8 +70,11 @@ enum-told c = search needs
 returns : tie.Need-returns
 returns c = stop (whole (c .before .before .before .before .before)) (unnumbered-stop (c .before .before .before .body .ensures) (sym (c .enum-told .given .1) ∙ c .before .before .read-sequence .ensures))
 
+is-zero-requires : tie.Need-is-zero-requires
+is-zero-requires c κs = search needs
+
 returns-2 : tie.Need-returns-2
-returns-2 c = stop (past-length (c .before .before .before)) (rw (number-told (c .before .before .before), ne-eqb _ 0 (c .if1 .taken)))
+returns-2 c = stop (past-length (c .before .before .before)) (rw (number-told (c .before .before .before)) (asked (c .before .is-zero .ensures) (c .if1 .taken)))
 
 check-bare-requires : tie.Need-check-bare-requires
 check-bare-requires c κs = search needs
@@ -104,6 +106,7 @@ check-hugz-frames-spec =
     enum-known-n
     enum-told
     returns
+    is-zero-requires
     returns-2
     check-bare-requires
     enum-known-r

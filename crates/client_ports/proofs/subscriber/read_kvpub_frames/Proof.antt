@@ -17,9 +17,9 @@ use Rattle.base.specs.Octets.{number}
 use Rattle.client_ports.specs.Readings.{kvpubOf}
 use Rattle.client_ports.specs.declared.subscriber.Published.the-variants.{Kvpub}
 use Rattle.messages.specs.Fields.{Fields}
-use Rattle.names.specs.Keys.{isKey}
-use Rattle.names.specs.Numbers.{maxSequence, sequence, numberedOf}
-use Rattle.names.specs.declared.numbers.Numbered.the-variants.{By}
+use Rattle.keys.specs.Keys.{isKey}
+use Rattle.numbers.specs.Sequences.{maxSequence, sequence, numberedOf}
+use Rattle.numbers.specs.declared.sequence.Numbered.the-variants.{By}
 use Rattle.ports.proofs.PortLaws.{told, unnumbered-stop, numbered-pass, number-is}
 use Rattle.ports.specs.Bodies.{fieldsAt}
 use Rattle.ports.specs.Ports.{payloadChecks, kvpubChecks}

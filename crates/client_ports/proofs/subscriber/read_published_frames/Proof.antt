@@ -13,7 +13,7 @@ use Rattle.ports.specs.Bodies.{fieldsAt}
 use Rattle.ports.specs.Ports.{hugzChecks}
 use Rattle.client_ports.specs.Readings.{beatOf, publishedOf}
 use Rattle.framing.specs.Splits.{bodyIn}
-use Rattle.names.specs.Words.{wordHugz}
+use Rattle.frame_forms.specs.Words.{wordHugz}
 use Rattle.client_ports.proofs.subscriber.read_published_frames.Statement.{statement}
 use Rattle.client_ports.proofs.subscriber.read_published_frames.Tie as tie
 

@@ -37,7 +37,7 @@ same-length-3 c = search needs
 
 returns : tie.Need-returns
 returns c =
-    let begun = began _ _ _ (c .before .before .before .before .before .before .before .before .before .before .before .before .before .before .before .before .start .ensures) in
+    let begun = began _ _ _ _ (c .before .before .before .before .before .before .before .before .before .before .before .before .before .before .before .before .start .ensures) in
     let asked = called _ _ _ begun _ _ _ _ _ (c .before .before .before .before .before .before .before .before .before .before .before .before .before .before .write-icanhaz .ensures) in
     let synced = called _ _ _ asked _ _ _ _ _ (c .before .before .before .before .before .before .before .before .before .before .before .snapshot .ensures) in
     let told = called _ _ _ synced _ _ _ _ _ (c .before .before .before .before .before .before .before .before .before .before .subscriber .ensures) in

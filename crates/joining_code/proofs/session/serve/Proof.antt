@@ -28,15 +28,15 @@ same-length-3 c = search needs
 
 returns : tie.Need-returns
 returns c =
-    let begun = began _ _ _ (c .before .before .before .before .before .before .before .before .before .before .before .before .start .ensures) in
-    let updated = called _ _ _ begun _ _ _ _ (c .before .before .before .before .before .before .before .before .before .before .kvset .ensures) in
-    let timed = called _ _ _ updated _ _ _ _ (c .before .before .before .before .before .before .tick .ensures) in
-    let last = server-steps timed _ _ _ _ (c .before .before .icanhaz .ensures) in
+    let begun = began _ _ _ _ (c .before .before .before .before .before .before .before .before .before .before .before .before .before .start .ensures) in
+    let updated = called _ _ _ begun _ _ _ _ _ (c .before .before .before .before .before .before .before .before .before .before .before .kvset .ensures) in
+    let timed = called _ _ _ updated _ _ _ _ _ (c .before .before .before .before .before .before .before .tick .ensures) in
+    let last = server-steps timed _ _ _ _ _ (c .before .before .icanhaz .ensures) in
     record {
-      ran = called _ _ _ timed _ _ _ _ (c .before .before .icanhaz .ensures);
+      ran = called _ _ _ timed _ _ _ _ _ (c .before .before .icanhaz .ensures);
       answer = last .answers;
-      updates = server-steps begun _ _ _ _ (c .before .before .before .before .before .before .before .before .before .before .kvset .ensures) .output;
-      expires = server-steps updated _ _ _ _ (c .before .before .before .before .before .before .tick .ensures) .output;
+      updates = server-steps begun _ _ _ _ _ (c .before .before .before .before .before .before .before .before .before .before .before .kvset .ensures) .output;
+      expires = server-steps updated _ _ _ _ _ (c .before .before .before .before .before .before .before .tick .ensures) .output;
       sends = last .output;
     }
 

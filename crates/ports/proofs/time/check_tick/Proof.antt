@@ -1,6 +1,5 @@
 -- `ports::time::check_tick` meets its contract: the range, and then the last tick. Assumes nothing.
-use mathlib.Core.Path.{refl}
-use borrow.Author.Tests.{lt-ltb, le-ltb}
+use mathlib.Core.Path.{refl, sym, _∙_}
 use Rattle.answers.specs.Refusals.{verdict}
 use Rattle.base.proofs.CheckLaws.{Left, pass, stop, done, asked}
 use Rattle.base.specs.Checks.{firstOf}
@@ -18,11 +17,19 @@ is-time-requires c κs = search needs
 returns : tie.Need-returns
 returns c = stop (whole (c .before .before)) (asked (c .before .is-time .ensures) (c .if1 .taken))
 
+is-before-requires : tie.Need-is-before-requires
+is-before-requires c κs = search needs
+
 returns-2 : tie.Need-returns-2
-returns-2 c = stop (pass (whole (c .before .before .before .before .before)) (asked (c .before .before .before .before .is-time .ensures) (c .before .before .before .if1 .left))) (lt-ltb _ _ (c .if2 .taken))
+returns-2 c =
+    stop (pass (whole (c .before .before .before .before)) (asked (c .before .before .before .is-time .ensures) (c .before .before .if1 .left)))
+    (sym (c .before .is-before .ensures) ∙ c .if2 .taken)
 
 returns-3 : tie.Need-returns-3
-returns-3 c = done (pass (pass (whole (c .before .before .before .before .before)) (asked (c .before .before .before .before .is-time .ensures) (c .before .before .before .if1 .left))) (le-ltb _ _ (c .if2 .left)))
+returns-3 c =
+    done
+    (pass (pass (whole (c .before .before .before .before)) (asked (c .before .before .before .is-time .ensures) (c .before .before .if1 .left)))
+    (sym (c .before .is-before .ensures) ∙ c .if2 .left))
 
 pub check-tick-spec : {M : Type 1} → statement M
-check-tick-spec = tie.close (tie.spec is-time-requires returns returns-2 returns-3)
+check-tick-spec = tie.close (tie.spec is-time-requires returns is-before-requires returns-2 returns-3)

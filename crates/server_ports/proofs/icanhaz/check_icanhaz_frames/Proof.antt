@@ -12,9 +12,9 @@ use Rattle.base.proofs.CheckLaws.{Left, pass, stop, done}
 use Rattle.base.specs.Bytes.{same}
 use Rattle.base.specs.Checks.{Check, firstOf}
 use Rattle.framing.specs.Splits.{bodyIn}
-use Rattle.names.specs.Keys.{isSubtree}
-use Rattle.names.specs.Lengths.{isIdentity}
-use Rattle.names.specs.Words.{wordIcanhaz}
+use Rattle.keys.specs.Keys.{isSubtree}
+use Rattle.frame_forms.specs.Lengths.{isIdentity}
+use Rattle.frame_forms.specs.Words.{wordIcanhaz}
 use Rattle.ports.proofs.PortLaws.{told}
 use Rattle.ports.specs.Ports.{icanhazChecks}
 use Rattle.server_ports.proofs.icanhaz.check_icanhaz_frames.Statement.{statement}

@@ -9,7 +9,7 @@ use denote.Ref.{now}
 use Rattle.answers.specs.declared.refusal.Refusal.{Refusal}
 use Rattle.base.proofs.CheckLaws.{Left, pass, stop}
 use Rattle.base.specs.Checks.{Check, firstOf}
-use Rattle.names.specs.Keys.{isKey}
+use Rattle.keys.specs.Keys.{isKey}
 use Rattle.ports.proofs.PortLaws.{told, unnumbered-stop, numbered-pass}
 use Rattle.ports.specs.Bodies.{fieldsAt, updateOf}
 use Rattle.ports.specs.declared.update.Update.{Update}

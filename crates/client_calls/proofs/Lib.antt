@@ -1,0 +1,5 @@
+pub mod AnswerLaws
+pub mod MessageLaws
+pub mod NextLaws
+pub mod QueryLaws
+pub mod RunLaws

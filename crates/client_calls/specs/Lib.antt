@@ -1,0 +1,10 @@
+pub mod Answers
+pub mod Calls
+pub mod Effects
+pub mod Next
+pub mod Output
+pub mod Promises
+pub mod Refusals
+pub mod Runs
+pub mod Start
+pub mod Written

@@ -1,0 +1,4 @@
+pub mod CallLaws
+pub mod CarryLaws
+pub mod EffectLaws
+pub mod PlanLaws

@@ -1,4 +1,0 @@
-pub mod AnswerLaws
-pub mod MessageLaws
-pub mod NextLaws
-pub mod PlanLaws

@@ -1,0 +1,3 @@
+pub mod KeyGrammar
+pub mod KeyLaws
+pub mod UnderLaws

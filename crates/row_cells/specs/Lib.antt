@@ -1,0 +1,4 @@
+pub mod Faults
+pub mod FreshRows
+pub mod Sizes
+pub mod Texts

@@ -1,0 +1,12 @@
+pub mod Answers
+pub mod Calls
+pub mod Deeds
+pub mod Due
+pub mod Next
+pub mod Output
+pub mod Promises
+pub mod Refusals
+pub mod Repeats
+pub mod Runs
+pub mod Snapshots
+pub mod Start

@@ -1,0 +1,2 @@
+pub mod DuePlaceLaws
+pub mod PlanLaws

@@ -1,0 +1,2 @@
+pub mod DuePlaces
+pub mod Plans

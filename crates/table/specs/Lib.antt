@@ -1,4 +1,0 @@
-pub mod Changes
-pub mod Columns
-pub mod Faults
-pub mod Find
