@@ -1,15 +1,12 @@
-//! Says where the C archives lie: the shim's, which `run` compiles, and the library's.
+//! Says where the shim's archive lies, which `run` compiles. The Rust module says where the library's is.
 
 use std::env;
 use std::path::Path;
 
 fn main() {
     let here = env::var("CARGO_MANIFEST_DIR").expect("cargo names the folder");
-    let target = Path::new(&here).join("../target");
-    for (folder, library) in [("bench/shim", "shim"), ("staticlib", "chp")] {
-        let folder = target.join(folder);
-        println!("cargo:rustc-link-search=native={}", folder.display());
-        println!("cargo:rustc-link-lib=static={library}");
-        println!("cargo:rerun-if-changed={}", folder.join(format!("lib{library}.a")).display());
-    }
+    let folder = Path::new(&here).join("../target/bench/shim");
+    println!("cargo:rustc-link-search=native={}", folder.display());
+    println!("cargo:rustc-link-lib=static=shim");
+    println!("cargo:rerun-if-changed={}", folder.join("libshim.a").display());
 }

@@ -1,6 +1,6 @@
-/* The functions of chp.h are static inline, so another language cannot link to them. Here each of them gets an external name. A table
- * has the compiler's view of the structs, and the header's constants. All calls of the comparison and of the measurement go through
- * here, so the header is tested along with the archive. */
+/* The functions of chp.h are static inline, so another language cannot link to them. Here each of them gets an external
+ * name. A table has the compiler's view of the structs, and the header's constants. All calls of the first comparison
+ * and of the column Library go through here, so the header is tested along with the archive. */
 
 #include <stddef.h>
 #include <stdint.h>
@@ -12,7 +12,8 @@ chp_answer shim_server_start(chp_server *s, uint64_t number, uint64_t tick)
     return chp_server_start(s, number, tick);
 }
 
-chp_answer shim_server_kvset(chp_server *s, const uint8_t *msg, size_t msg_len, uint64_t tick, uint8_t *out, size_t out_len)
+chp_answer shim_server_kvset(chp_server *s, const uint8_t *msg, size_t msg_len, uint64_t tick, uint8_t *out,
+                             size_t out_len)
 {
     return chp_server_kvset(s, msg, msg_len, tick, out, out_len);
 }
@@ -47,11 +48,12 @@ chp_answer shim_client_write_icanhaz(const chp_client *c, uint8_t *out, size_t o
     return chp_client_write_icanhaz(c, out, out_len);
 }
 
-chp_answer shim_client_write_kvset(const chp_client *c, const uint8_t *key, size_t key_len, const uint8_t *uuid, size_t uuid_len,
-                                   const uint8_t *properties, size_t properties_len, const uint8_t *value, size_t value_len,
-                                   uint8_t *out, size_t out_len)
+chp_answer shim_client_write_kvset(const chp_client *c, const uint8_t *key, size_t key_len, const uint8_t *uuid,
+                                   size_t uuid_len, const uint8_t *properties, size_t properties_len,
+                                   const uint8_t *value, size_t value_len, uint8_t *out, size_t out_len)
 {
-    return chp_client_write_kvset(c, key, key_len, uuid, uuid_len, properties, properties_len, value, value_len, out, out_len);
+    return chp_client_write_kvset(c, key, key_len, uuid, uuid_len, properties, properties_len, value, value_len, out,
+                                  out_len);
 }
 
 chp_answer shim_client_ask(const chp_client *c, uint64_t tick)
@@ -62,78 +64,6 @@ chp_answer shim_client_ask(const chp_client *c, uint64_t tick)
 chp_answer shim_client_lookup(const chp_client *c, const uint8_t *key, size_t key_len, uint8_t *out, size_t out_len)
 {
     return chp_client_lookup(c, key, key_len, out, out_len);
-}
-
-/* The calls with the state by value, in the form of the others. Here null pointers have to be replaced beforehand. */
-
-static chp_answer keep_server(chp_server *s, chp_server_reply r)
-{
-    *s = r.state;
-    return r.answer;
-}
-
-static chp_answer keep_client(chp_client *c, chp_client_reply r)
-{
-    *c = r.state;
-    return r.answer;
-}
-
-chp_answer shim_by_value_server_start(chp_server *s, uint64_t number, uint64_t tick)
-{
-    return keep_server(s, chp_by_value_server_start(number, tick));
-}
-
-chp_answer shim_by_value_server_kvset(chp_server *s, const uint8_t *msg, size_t msg_len, uint64_t tick, uint8_t *out, size_t out_len)
-{
-    return keep_server(s, chp_by_value_server_kvset(*s, chp_in(msg), msg_len, tick, chp_out(out), out_len));
-}
-
-chp_answer shim_by_value_server_tick(chp_server *s, uint64_t tick, uint8_t *out, size_t out_len)
-{
-    return keep_server(s, chp_by_value_server_tick(*s, tick, chp_out(out), out_len));
-}
-
-chp_answer shim_by_value_server_icanhaz(chp_server *s, const uint8_t *msg, size_t msg_len, uint8_t *out, size_t out_len)
-{
-    return keep_server(s, chp_by_value_server_icanhaz(*s, chp_in(msg), msg_len, chp_out(out), out_len));
-}
-
-chp_answer shim_by_value_client_start(chp_client *c, const uint8_t *subtree, size_t subtree_len, uint64_t tick)
-{
-    return keep_client(c, chp_by_value_client_start(chp_in(subtree), subtree_len, tick));
-}
-
-chp_answer shim_by_value_client_snapshot(chp_client *c, const uint8_t *msg, size_t msg_len)
-{
-    return keep_client(c, chp_by_value_client_snapshot(*c, chp_in(msg), msg_len));
-}
-
-chp_answer shim_by_value_client_subscriber(chp_client *c, const uint8_t *msg, size_t msg_len, uint64_t tick)
-{
-    return keep_client(c, chp_by_value_client_subscriber(*c, chp_in(msg), msg_len, tick));
-}
-
-chp_answer shim_by_value_client_write_icanhaz(const chp_client *c, uint8_t *out, size_t out_len)
-{
-    return chp_by_value_client_write_icanhaz(*c, chp_out(out), out_len);
-}
-
-chp_answer shim_by_value_client_write_kvset(const chp_client *c, const uint8_t *key, size_t key_len, const uint8_t *uuid, size_t uuid_len,
-                                            const uint8_t *properties, size_t properties_len, const uint8_t *value, size_t value_len,
-                                            uint8_t *out, size_t out_len)
-{
-    return chp_by_value_client_write_kvset(*c, chp_in(key), key_len, chp_in(uuid), uuid_len, chp_in(properties), properties_len,
-                                           chp_in(value), value_len, chp_out(out), out_len);
-}
-
-chp_answer shim_by_value_client_ask(const chp_client *c, uint64_t tick)
-{
-    return chp_by_value_client_ask(*c, tick);
-}
-
-chp_answer shim_by_value_client_lookup(const chp_client *c, const uint8_t *key, size_t key_len, uint8_t *out, size_t out_len)
-{
-    return chp_by_value_client_lookup(*c, chp_in(key), key_len, chp_out(out), out_len);
 }
 
 /* The rows of a state. */
@@ -207,8 +137,8 @@ const char *shim_refusal_text(uint64_t refusal)
     return chp_refusal_text(refusal);
 }
 
-/* The header's version: its three numbers and the number made of them; the archive's version; and the archive's own marks in both
- * states. */
+/* The header's version: its three numbers and the number made of them; the archive's version; and the archive's own
+ * marks in a field of each kind. */
 
 const uint64_t shim_version[4] = { CHP_VERSION_MAJOR, CHP_VERSION_MINOR, CHP_VERSION_PATCH, CHP_VERSION };
 
@@ -222,14 +152,11 @@ int shim_layout_agrees(void)
     return chp_layout_agrees();
 }
 
-chp_answer shim_layout_server(chp_server *s)
+uint64_t shim_layout_marks(chp_row_bytes *row, chp_row_lengths *lengths, chp_row_stamps *stamps, uint8_t *subtree,
+                           chp_server_header *server, chp_client_header *client, chp_answer *answer)
 {
-    return keep_server(s, chp_layout_server());
-}
-
-chp_answer shim_layout_client(chp_client *c)
-{
-    return keep_client(c, chp_layout_client());
+    return chp_layout_marks((uint8_t *)row, (uint64_t *)lengths, (uint64_t *)stamps, subtree, (uint64_t *)server,
+                            (uint64_t *)client, (uint64_t *)answer);
 }
 
 typedef struct shim_place {
@@ -248,26 +175,36 @@ const shim_place shim_layout[] = {
     FIELD(chp_answer, refusal),
     FIELD(chp_answer, number),
     FIELD(chp_answer, written),
-    SIZE(chp_table),
-    FIELD(chp_table, keys),
-    FIELD(chp_table, values),
-    FIELD(chp_table, key_lengths),
-    FIELD(chp_table, value_lengths),
-    FIELD(chp_table, count),
+    SIZE(chp_row_bytes),
+    FIELD(chp_row_bytes, key),
+    FIELD(chp_row_bytes, value),
+    SIZE(chp_row_lengths),
+    FIELD(chp_row_lengths, key),
+    FIELD(chp_row_lengths, value),
+    SIZE(chp_row_stamps),
+    FIELD(chp_row_stamps, number),
+    FIELD(chp_row_stamps, expiry),
+    SIZE(chp_server_header),
+    FIELD(chp_server_header, number),
+    FIELD(chp_server_header, last_tick),
+    FIELD(chp_server_header, last_published),
+    FIELD(chp_server_header, count),
     SIZE(chp_server),
-    FIELD(chp_server, table),
-    FIELD(chp_server, numbers),
-    FIELD(chp_server, expiries),
-    FIELD(chp_server, number),
-    FIELD(chp_server, last_tick),
-    FIELD(chp_server, last_published),
+    FIELD(chp_server, rows),
+    FIELD(chp_server, lengths),
+    FIELD(chp_server, stamps),
+    FIELD(chp_server, header),
+    SIZE(chp_client_header),
+    FIELD(chp_client_header, phase),
+    FIELD(chp_client_header, number),
+    FIELD(chp_client_header, clock),
+    FIELD(chp_client_header, subtree_length),
+    FIELD(chp_client_header, count),
     SIZE(chp_client),
-    FIELD(chp_client, table),
+    FIELD(chp_client, rows),
+    FIELD(chp_client, lengths),
     FIELD(chp_client, subtree),
-    FIELD(chp_client, subtree_length),
-    FIELD(chp_client, phase),
-    FIELD(chp_client, number),
-    FIELD(chp_client, clock),
+    FIELD(chp_client, header),
     SIZE(chp_message),
     FIELD(chp_message, bytes),
     FIELD(chp_message, room),

@@ -14,7 +14,7 @@ static chp_client desk;
 static void publish(const uint8_t *message, size_t length)
 {
     chp_part value = chp_value(message, length);
-    printf("published: %u bytes, number %u, value %.*s\n", (unsigned)length, (unsigned)server.number,
+    printf("published: %u bytes, number %u, value %.*s\n", (unsigned)length, (unsigned)server.header.number,
         (int)value.length, (const char *)message + value.start);
 }
 

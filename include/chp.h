@@ -29,8 +29,7 @@
  * STATES are plain data of about 25 KB. A host may copy, store or send them; they hold no pointers. A state from
  * elsewhere may be ill-formed: every call except the starts checks that first and refuses it with CHP_ILL_FORMED.
  *
- * STACK. A call needs less than 4 KB. The two starts and chp_layout_agrees need up to 80 KB, since they build a whole
- * state on the stack. The calls by value need up to 150 KB.
+ * STACK. Every function needs less than 4 KB, the starts too: they fill the state where it is.
  *
  * WHAT THE HOST OWES: MEMORY
  *   - A pointer to a state points to a whole chp_server or chp_client, whatever its bits.
@@ -79,7 +78,7 @@ extern "C" {
 /* ---- Version ---- */
 
 #define CHP_VERSION_MAJOR 0
-#define CHP_VERSION_MINOR 7
+#define CHP_VERSION_MINOR 8
 #define CHP_VERSION_PATCH 0
 #define CHP_VERSION (CHP_VERSION_MAJOR * 1000000 + CHP_VERSION_MINOR * 1000 + CHP_VERSION_PATCH)
 
@@ -157,82 +156,61 @@ enum {
 };
 
 /* The cause of a refusal in words; "unknown" for any other number. The text is constant. */
-static inline const char *chp_refusal_text(uint64_t refusal)
-{
-    switch (refusal) {
-    case CHP_ACCEPTED: return "accepted";
-    case CHP_FRAMING: return "the framing is broken";
-    case CHP_FRAME_COUNT: return "wrong number of frames";
-    case CHP_WORD: return "not an ICANHAZ? request";
-    case CHP_BAD_KEY: return "malformed key";
-    case CHP_BAD_SUBTREE: return "malformed subtree, or not the client's";
-    case CHP_BAD_SEQUENCE: return "sequence is not 8 bytes, or out of range";
-    case CHP_BAD_UUID: return "UUID of a wrong length";
-    case CHP_BAD_PROPERTIES: return "malformed properties";
-    case CHP_BAD_VALUE: return "value too long, missing, or not allowed here";
-    case CHP_BAD_TICK: return "tick out of range, or before the last one";
-    case CHP_FULL: return "the table is full";
-    case CHP_EXHAUSTED: return "no number is left for another update";
-    case CHP_PHASE: return "wrong phase: the client still waits, or is already live";
-    case CHP_SHORT_OUTPUT: return "the output is too short for the answer";
-    case CHP_BAD_IDENTITY: return "identity of a wrong length";
-    case CHP_ILL_FORMED: return "the state is ill-formed";
-    default: return "unknown";
-    }
-}
+static inline const char *chp_refusal_text(uint64_t refusal);
 
 /* The name of a kind; "unknown" for any other number. The text is constant. */
-static inline const char *chp_kind_text(uint64_t kind)
-{
-    switch (kind) {
-    case CHP_REFUSED: return "refused";
-    case CHP_STARTED: return "started";
-    case CHP_APPLIED: return "applied";
-    case CHP_STALE: return "stale";
-    case CHP_OUTSIDE: return "outside";
-    case CHP_SYNCED: return "synced";
-    case CHP_LIVE: return "live";
-    case CHP_HEARD: return "heard";
-    case CHP_WROTE: return "wrote";
-    case CHP_NOTHING: return "nothing";
-    case CHP_FOUND: return "found";
-    case CHP_ABSENT: return "absent";
-    case CHP_PRESENT: return "present";
-    case CHP_GONE: return "gone";
-    default: return "unknown";
-    }
-}
+static inline const char *chp_kind_text(uint64_t kind);
 
 /* ---- States ----
  * A host may read any field; chp_server_row and chp_client_row read the rows without knowing this layout. Row i, for
- * i < count, has its key at keys[96 * i] and its value at values[256 * i]. Rows are in key order. Bytes after a length,
- * and rows from count on, are not part of a state.
+ * i < header.count, has rows[i], lengths[i] and, at a server, stamps[i]. Rows are in key order. Bytes after a length,
+ * and rows from the count on, are not part of a state.
  */
 
-typedef struct chp_table {
-    uint8_t keys[6400]; /* the last 256 bytes are unused */
-    uint8_t values[16384];
-    uint64_t key_lengths[CHP_ROWS];
-    uint64_t value_lengths[CHP_ROWS];
-    size_t count;
-} chp_table;
+/* The bytes of a row: of either, as many count as its length says. */
+typedef struct chp_row_bytes {
+    uint8_t key[CHP_KEY_MOST];
+    uint8_t value[CHP_VALUE_MOST];
+} chp_row_bytes;
+
+typedef struct chp_row_lengths {
+    uint64_t key;
+    uint64_t value;
+} chp_row_lengths;
+
+/* What a server notes of a row. */
+typedef struct chp_row_stamps {
+    uint64_t number; /* of the row's last set */
+    uint64_t expiry; /* a tick, or CHP_NEVER */
+} chp_row_stamps;
+
+typedef struct chp_server_header {
+    uint64_t number;         /* of the last update */
+    uint64_t last_tick;      /* of the last accepted call with a tick */
+    uint64_t last_published; /* the tick of the last KVPUB or HUGZ; at first that of the start */
+    uint64_t count;          /* rows */
+} chp_server_header;
 
 typedef struct chp_server {
-    chp_table table;
-    uint64_t numbers[CHP_ROWS];  /* the number of each row's last set */
-    uint64_t expiries[CHP_ROWS]; /* a tick, or CHP_NEVER */
-    uint64_t number;             /* of the last update */
-    uint64_t last_tick;          /* of the last accepted call with a tick */
-    uint64_t last_published;     /* the tick of the last KVPUB or HUGZ; at first that of the start */
+    chp_row_bytes rows[CHP_ROWS];
+    chp_row_lengths lengths[CHP_ROWS];
+    chp_row_stamps stamps[CHP_ROWS];
+    chp_server_header header;
 } chp_server;
 
+typedef struct chp_client_header {
+    uint64_t phase;          /* 0: the client waits for its snapshot; any other number: it is live */
+    uint64_t number;         /* of the last update taken; 0 while the client waits */
+    uint64_t clock;          /* the tick of the last HUGZ; at first that of the start */
+    uint64_t subtree_length; /* bytes of the subtree */
+    uint64_t count;          /* rows */
+} chp_client_header;
+
 typedef struct chp_client {
-    chp_table table;
+    chp_row_bytes rows[CHP_ROWS];
+    chp_row_lengths lengths[CHP_ROWS];
     uint8_t subtree[CHP_KEY_MOST];
-    uint64_t subtree_length;
-    uint64_t phase;  /* 0: the client waits for its snapshot; any other number: it is live */
-    uint64_t number; /* of the last update taken; 0 while the client waits */
-    uint64_t clock;  /* the tick of the last HUGZ; at first that of the start */
+    chp_client_header header;
 } chp_client;
 
 /* ---- Messages and parts ---- */
@@ -267,276 +245,74 @@ typedef struct chp_part {
     uint64_t length;
 } chp_part;
 
-/* ---- What the archive exports ----
- * Hosts call the functions further below, which hide these. The columns of a state are lent one by one, so that nothing
- * of a state is copied; a call that changes them returns the new count and header.
- */
-
-typedef struct chp_server_header {
-    uint64_t number, last_tick, last_published;
-} chp_server_header;
-
-typedef struct chp_server_outcome {
-    size_t count;
-    chp_server_header header;
-    chp_answer answer;
-} chp_server_outcome;
-
-typedef struct chp_client_header {
-    uint64_t phase, number, clock;
-} chp_client_header;
-
-typedef struct chp_client_outcome {
-    size_t count;
-    chp_client_header header;
-    chp_answer answer;
-} chp_client_outcome;
-
-typedef struct chp_server_reply {
-    chp_server state;
-    chp_answer answer;
-} chp_server_reply;
-
-typedef struct chp_client_reply {
-    chp_client state;
-    chp_answer answer;
-} chp_client_reply;
-
-chp_server_outcome chp_lent_server_kvset(uint8_t *keys, uint8_t *values, uint64_t *key_lengths,
-    uint64_t *value_lengths, uint64_t *numbers, uint64_t *expiries, size_t count, chp_server_header header,
-    const uint8_t *msg, size_t msg_len, uint64_t tick, uint8_t *out, size_t out_len);
-chp_server_outcome chp_lent_server_tick(uint8_t *keys, uint8_t *values, uint64_t *key_lengths,
-    uint64_t *value_lengths, uint64_t *numbers, uint64_t *expiries, size_t count, chp_server_header header,
-    uint64_t tick, uint8_t *out, size_t out_len);
-chp_answer chp_lent_server_icanhaz(const uint8_t *keys, const uint8_t *values, const uint64_t *key_lengths,
-    const uint64_t *value_lengths, const uint64_t *numbers, const uint64_t *expiries, size_t count,
-    chp_server_header header, const uint8_t *msg, size_t msg_len, uint8_t *out, size_t out_len);
-
-chp_client_outcome chp_lent_client_snapshot(uint8_t *keys, uint8_t *values, uint64_t *key_lengths,
-    uint64_t *value_lengths, size_t count, const uint8_t *subtree, uint64_t subtree_length, chp_client_header header,
-    const uint8_t *msg, size_t msg_len);
-chp_client_outcome chp_lent_client_subscriber(uint8_t *keys, uint8_t *values, uint64_t *key_lengths,
-    uint64_t *value_lengths, size_t count, const uint8_t *subtree, uint64_t subtree_length, chp_client_header header,
-    const uint8_t *msg, size_t msg_len, uint64_t tick);
-chp_answer chp_lent_client_write_icanhaz(const uint8_t *keys, const uint8_t *values, const uint64_t *key_lengths,
-    const uint64_t *value_lengths, size_t count, const uint8_t *subtree, uint64_t subtree_length,
-    chp_client_header header, uint8_t *out, size_t out_len);
-chp_answer chp_lent_client_write_kvset(const uint8_t *keys, const uint8_t *values, const uint64_t *key_lengths,
-    const uint64_t *value_lengths, size_t count, const uint8_t *subtree, uint64_t subtree_length,
-    chp_client_header header, const uint8_t *key, size_t key_len, const uint8_t *uuid, size_t uuid_len,
-    const uint8_t *properties, size_t properties_len, const uint8_t *value, size_t value_len,
-    uint8_t *out, size_t out_len);
-chp_answer chp_lent_client_ask(const uint8_t *keys, const uint8_t *values, const uint64_t *key_lengths,
-    const uint64_t *value_lengths, size_t count, const uint8_t *subtree, uint64_t subtree_length,
-    chp_client_header header, uint64_t tick);
-chp_answer chp_lent_client_lookup(const uint8_t *keys, const uint8_t *values, const uint64_t *key_lengths,
-    const uint64_t *value_lengths, size_t count, const uint8_t *subtree, uint64_t subtree_length,
-    chp_client_header header, const uint8_t *key, size_t key_len, uint8_t *out, size_t out_len);
-
-/* The same calls with the state by value, for hosts that prefer a function from states to states. */
-chp_server_reply chp_by_value_server_start(uint64_t number, uint64_t tick);
-chp_server_reply chp_by_value_server_kvset(chp_server s, const uint8_t *msg, size_t msg_len, uint64_t tick,
-    uint8_t *out, size_t out_len);
-chp_server_reply chp_by_value_server_tick(chp_server s, uint64_t tick, uint8_t *out, size_t out_len);
-chp_server_reply chp_by_value_server_icanhaz(chp_server s, const uint8_t *msg, size_t msg_len,
-    uint8_t *out, size_t out_len);
-chp_client_reply chp_by_value_client_start(const uint8_t *subtree, size_t subtree_len, uint64_t tick);
-chp_client_reply chp_by_value_client_snapshot(chp_client c, const uint8_t *msg, size_t msg_len);
-chp_client_reply chp_by_value_client_subscriber(chp_client c, const uint8_t *msg, size_t msg_len, uint64_t tick);
-chp_answer chp_by_value_client_write_icanhaz(chp_client c, uint8_t *out, size_t out_len);
-chp_answer chp_by_value_client_write_kvset(chp_client c, const uint8_t *key, size_t key_len,
-    const uint8_t *uuid, size_t uuid_len, const uint8_t *properties, size_t properties_len,
-    const uint8_t *value, size_t value_len, uint8_t *out, size_t out_len);
-chp_answer chp_by_value_client_ask(chp_client c, uint64_t tick);
-chp_answer chp_by_value_client_lookup(chp_client c, const uint8_t *key, size_t key_len, uint8_t *out, size_t out_len);
-
-/* built: length and stage of a message; frame: start, length and more of a frame. */
-void chp_bytes_put_part(uint8_t *buffer, size_t room, uint64_t *built, uint64_t more,
-    const uint8_t *part, size_t part_len);
-uint64_t chp_bytes_next_frame(const uint8_t *bytes, size_t len, uint64_t *frame);
-size_t chp_bytes_message_length(const uint8_t *bytes, size_t len);
-chp_part chp_bytes_value(const uint8_t *msg, size_t msg_len);
-uint64_t chp_bytes_value_refusal(const uint8_t *msg, size_t msg_len);
-
-uint64_t chp_bytes_is_key(const uint8_t *bytes, size_t len);
-uint64_t chp_bytes_is_subtree(const uint8_t *bytes, size_t len);
-uint64_t chp_bytes_is_under(const uint8_t *subtree, size_t subtree_len, const uint8_t *key, size_t key_len);
-
-/* States in which each field holds a mark: 1, 2, 3 and so on, in the order of the fields. */
-chp_server_reply chp_layout_server(void);
-chp_client_reply chp_layout_client(void);
-
-/* The version that the archive was built as; to be compared with CHP_VERSION. */
-uint64_t chp_archive_version(void);
-
-/* Bytes of length 0 may come with a null pointer; the archive needs one that is not null. */
-static inline const uint8_t *chp_in(const uint8_t *p)
-{
-    static const uint8_t none = 0;
-    return p ? p : &none;
-}
-
-static inline uint8_t *chp_out(uint8_t *p)
-{
-    static uint8_t none;
-    return p ? p : &none;
-}
-
-static inline chp_server_header chp_header_of_server(const chp_server *s)
-{
-    chp_server_header h;
-    h.number = s->number;
-    h.last_tick = s->last_tick;
-    h.last_published = s->last_published;
-    return h;
-}
-
-static inline chp_answer chp_end_server(chp_server *s, chp_server_outcome r)
-{
-    s->table.count = r.count;
-    s->number = r.header.number;
-    s->last_tick = r.header.last_tick;
-    s->last_published = r.header.last_published;
-    return r.answer;
-}
-
-static inline chp_client_header chp_header_of_client(const chp_client *c)
-{
-    chp_client_header h;
-    h.phase = c->phase;
-    h.number = c->number;
-    h.clock = c->clock;
-    return h;
-}
-
-static inline chp_answer chp_end_client(chp_client *c, chp_client_outcome r)
-{
-    c->table.count = r.count;
-    c->phase = r.header.phase;
-    c->number = r.header.number;
-    c->clock = r.header.clock;
-    return r.answer;
-}
-
 /* ---- The server ---- */
 
 /* A server without rows, at a number and a tick: started. Both clocks are at that tick.
  * Refuses: 6 the number, 10 the tick. Refused, *s is a server without rows at number 0 and tick 0. */
-static inline chp_answer chp_server_start(chp_server *s, uint64_t number, uint64_t tick)
-{
-    chp_server_reply r = chp_by_value_server_start(number, tick);
-    *s = r.state;
-    return r.answer;
-}
+static inline chp_answer chp_server_start(chp_server *s, uint64_t number, uint64_t tick);
 
 /* KVSET at a tick. msg has five frames: key, sequence, UUID, properties, value. The number rises by one. A value that
  * is not empty is set, with an expiry if the properties have a ttl. An empty value removes the key. Writes the KVPUB,
  * which the host sends to every client, of at most CHP_KVPUB_MOST bytes: wrote.
  * Refuses: 16, 1, 2, 4, 6, 7, 8, 9, 10, 11, 12, 14. */
 static inline chp_answer chp_server_kvset(chp_server *s, const uint8_t *msg, size_t msg_len, uint64_t tick,
-    uint8_t *out, size_t out_len)
-{
-    return chp_end_server(s, chp_lent_server_kvset(s->table.keys, s->table.values, s->table.key_lengths,
-        s->table.value_lengths, s->numbers, s->expiries, s->table.count, chp_header_of_server(s),
-        chp_in(msg), msg_len, tick, chp_out(out), out_len));
-}
+    uint8_t *out, size_t out_len);
 
 /* Tells the time. If rows are due (their expiry is before the tick), the one that expired first is removed, the number
  * rises by one, and its KVPUB is written: wrote. Otherwise, if nothing was published for 1000 ms, HUGZ is written:
  * wrote. Otherwise: nothing. Call it a few times a second. If it wrote, call again at once: each call removes one row.
  * Refuses: 16, 10, 12, 14. */
-static inline chp_answer chp_server_tick(chp_server *s, uint64_t tick, uint8_t *out, size_t out_len)
-{
-    return chp_end_server(s, chp_lent_server_tick(s->table.keys, s->table.values, s->table.key_lengths,
-        s->table.value_lengths, s->numbers, s->expiries, s->table.count, chp_header_of_server(s),
-        tick, chp_out(out), out_len));
-}
+static inline chp_answer chp_server_tick(chp_server *s, uint64_t tick, uint8_t *out, size_t out_len);
 
 /* ICANHAZ. msg has three frames: the client's identity, the word ICANHAZ? and a subtree. Writes the snapshot, messages
  * one after another, each with the identity frame in front: a KVSYNC for each row under the subtree, then KTHXBAI; at
  * most CHP_SNAPSHOT_MOST bytes: wrote. chp_next_frame splits all of it into parts. The server does not change.
  * Refuses: 16, 1, 2, 15, 3, 5, 14. */
 static inline chp_answer chp_server_icanhaz(const chp_server *s, const uint8_t *msg, size_t msg_len,
-    uint8_t *out, size_t out_len)
-{
-    return chp_lent_server_icanhaz(s->table.keys, s->table.values, s->table.key_lengths, s->table.value_lengths,
-        s->numbers, s->expiries, s->table.count, chp_header_of_server(s), chp_in(msg), msg_len, chp_out(out), out_len);
-}
+    uint8_t *out, size_t out_len);
 
 /* ---- The client ---- */
 
 /* A client that waits for the snapshot of a subtree, from a tick on: started. The empty subtree is the whole map.
- * Refuses: 5 the subtree, 10 the tick. Refused, *c has the empty subtree and tick 0. */
-static inline chp_answer chp_client_start(chp_client *c, const uint8_t *subtree, size_t subtree_len, uint64_t tick)
-{
-    chp_client_reply r = chp_by_value_client_start(chp_in(subtree), subtree_len, tick);
-    *c = r.state;
-    return r.answer;
-}
+ * Refuses: 5 the subtree, 10 the tick. Refused, *c has the empty subtree and tick 0.
+ * Caution: *c is filled where it is, so subtree must not point into it. To start a client anew, keep the subtree. */
+static inline chp_answer chp_client_start(chp_client *c, const uint8_t *subtree, size_t subtree_len, uint64_t tick);
 
 /* A message from the server's router, without the identity frame. KTHXBAI with the client's subtree takes the number
  * and makes the client live: live. Anything else is a KVSYNC, which sets its row: synced. Only while the client waits.
  * Refuses KTHXBAI: 16, 1, 2, 5, 6, 7, 8, 13. Refuses KVSYNC: 16, 1, 2, 4, 5, 6, 7, 8, 9, 13, 11. */
-static inline chp_answer chp_client_snapshot(chp_client *c, const uint8_t *msg, size_t msg_len)
-{
-    return chp_end_client(c, chp_lent_client_snapshot(c->table.keys, c->table.values, c->table.key_lengths,
-        c->table.value_lengths, c->table.count, c->subtree, c->subtree_length, chp_header_of_client(c),
-        chp_in(msg), msg_len));
-}
+static inline chp_answer chp_client_snapshot(chp_client *c, const uint8_t *msg, size_t msg_len);
 
 /* A message that the server published. HUGZ sets the silence clock to the tick: heard. Only HUGZ uses the tick.
  * Anything else is a KVPUB. If its number is not above the client's, nothing changes: stale. Otherwise the client takes
  * the number. If the key is under the subtree, its row is set or removed: applied; if not: outside. Only once the
  * client is live; while it waits, the host keeps what is published and hands it in after KTHXBAI.
  * Refuses HUGZ: 16, 1, 2, 6, 7, 8, 9, 10, 13. Refuses KVPUB: 16, 1, 2, 4, 6, 7, 8, 9, 13, 11. */
-static inline chp_answer chp_client_subscriber(chp_client *c, const uint8_t *msg, size_t msg_len, uint64_t tick)
-{
-    return chp_end_client(c, chp_lent_client_subscriber(c->table.keys, c->table.values, c->table.key_lengths,
-        c->table.value_lengths, c->table.count, c->subtree, c->subtree_length, chp_header_of_client(c),
-        chp_in(msg), msg_len, tick));
-}
+static inline chp_answer chp_client_subscriber(chp_client *c, const uint8_t *msg, size_t msg_len, uint64_t tick);
 
 /* Writes ICANHAZ, the request for the snapshot: the word and the client's subtree, at most CHP_ICANHAZ_MOST bytes:
  * wrote. The router socket puts the identity in front. The client does not change.
  * Refuses: 16, 13 if it is live, 14. */
-static inline chp_answer chp_client_write_icanhaz(const chp_client *c, uint8_t *out, size_t out_len)
-{
-    return chp_lent_client_write_icanhaz(c->table.keys, c->table.values, c->table.key_lengths, c->table.value_lengths,
-        c->table.count, c->subtree, c->subtree_length, chp_header_of_client(c), chp_out(out), out_len);
-}
+static inline chp_answer chp_client_write_icanhaz(const chp_client *c, uint8_t *out, size_t out_len);
 
 /* Writes KVSET, the request for an update of any key, of at most CHP_KVPUB_MOST bytes: wrote. An empty value removes
  * the key. The client does not change: the update comes back to it as a KVPUB.
  * Refuses: 16, 4, 7, 8, 9, 14. */
 static inline chp_answer chp_client_write_kvset(const chp_client *c, const uint8_t *key, size_t key_len,
     const uint8_t *uuid, size_t uuid_len, const uint8_t *properties, size_t properties_len,
-    const uint8_t *value, size_t value_len, uint8_t *out, size_t out_len)
-{
-    return chp_lent_client_write_kvset(c->table.keys, c->table.values, c->table.key_lengths, c->table.value_lengths,
-        c->table.count, c->subtree, c->subtree_length, chp_header_of_client(c), chp_in(key), key_len,
-        chp_in(uuid), uuid_len, chp_in(properties), properties_len, chp_in(value), value_len, chp_out(out), out_len);
-}
+    const uint8_t *value, size_t value_len, uint8_t *out, size_t out_len);
 
 /* Whether more than 5000 ms have passed since HUGZ was heard, or since the start: gone, otherwise present. A server
  * that publishes updates all the time sends no HUGZ: ask only if no update has arrived for a while either. The client
  * does not change.
  * Refuses: 16, 10. */
-static inline chp_answer chp_client_ask(const chp_client *c, uint64_t tick)
-{
-    return chp_lent_client_ask(c->table.keys, c->table.values, c->table.key_lengths, c->table.value_lengths,
-        c->table.count, c->subtree, c->subtree_length, chp_header_of_client(c), tick);
-}
+static inline chp_answer chp_client_ask(const chp_client *c, uint64_t tick);
 
 /* Copies the value of a key to the output, at most CHP_VALUE_MOST bytes: found. If the client has no such key: absent,
  * and nothing is written. Only once the client is live. The client does not change.
  * Refuses: 16, 4, 13, 14. */
 static inline chp_answer chp_client_lookup(const chp_client *c, const uint8_t *key, size_t key_len,
-    uint8_t *out, size_t out_len)
-{
-    return chp_lent_client_lookup(c->table.keys, c->table.values, c->table.key_lengths, c->table.value_lengths,
-        c->table.count, c->subtree, c->subtree_length, chp_header_of_client(c), chp_in(key), key_len,
-        chp_out(out), out_len);
-}
+    uint8_t *out, size_t out_len);
 
 /* ---- Rows ---- */
 
@@ -550,34 +326,12 @@ typedef struct chp_row {
     uint64_t expiry; /* a tick, or CHP_NEVER; CHP_NEVER at a client */
 } chp_row;
 
-static inline int chp_row_of(const chp_table *t, size_t i, chp_row *row)
-{
-    if (i >= t->count || i >= CHP_ROWS || t->key_lengths[i] > CHP_KEY_MOST || t->value_lengths[i] > CHP_VALUE_MOST)
-        return 0;
-    row->key = t->keys + CHP_KEY_MOST * i;
-    row->key_length = (size_t)t->key_lengths[i];
-    row->value = t->values + CHP_VALUE_MOST * i;
-    row->value_length = (size_t)t->value_lengths[i];
-    row->number = 0;
-    row->expiry = CHP_NEVER;
-    return 1;
-}
-
 /* Row i of a server, counted from 0 in key order: 1, and *row is set; or 0, if there is no such row, and *row is
  * unchanged. In an ill-formed state, a row whose lengths do not fit its cells is no row. */
-static inline int chp_server_row(const chp_server *s, size_t i, chp_row *row)
-{
-    if (!chp_row_of(&s->table, i, row)) return 0;
-    row->number = s->numbers[i];
-    row->expiry = s->expiries[i];
-    return 1;
-}
+static inline int chp_server_row(const chp_server *s, size_t i, chp_row *row);
 
 /* The same of a client. While it waits, these are the rows of the snapshot so far. */
-static inline int chp_client_row(const chp_client *c, size_t i, chp_row *row)
-{
-    return chp_row_of(&c->table, i, row);
-}
+static inline int chp_client_row(const chp_client *c, size_t i, chp_row *row);
 
 /* ---- Messages from and to sockets ----
  * ZeroMQ delivers a message part by part. These functions receive one, and send what a call wrote (from
@@ -614,126 +368,52 @@ static inline int chp_client_row(const chp_client *c, size_t i, chp_row *row)
 
 /* Begins a message in a buffer of so many bytes; CHP_KVSET_ROOM and the like are enough. Each message begins with this
  * call, also in a buffer that was used before. */
-static inline chp_message chp_message_in(uint8_t *buffer, size_t room)
-{
-    chp_message m;
-    m.bytes = buffer;
-    m.room = room;
-    m.length = 0;
-    m.stage = CHP_OPEN;
-    return m;
-}
+static inline chp_message chp_message_in(uint8_t *buffer, size_t room);
 
 /* Adds a part of so many bytes; more is 0 if it is the last one. If the part does not fit, if it comes after the last
  * one, or if its length is negative (as a socket's -1), the message is void, and stays void whatever is added. So the
  * bytes of a message are exactly the parts that were added, in their order, or every entry refuses them.
  * Caution: zmq_recv returns the length before truncation, which may be more than your buffer holds. Use zmq_msg_recv as
  * above, or a part buffer that is no shorter than the room: a longer part is then void before it is read. */
-static inline void chp_message_add(chp_message *m, const void *part, int64_t length, int more)
-{
-    uint64_t built[2];
-    if (length < 0 || (uint64_t)length > m->room) {
-        m->length = 0;
-        m->stage = CHP_VOID;
-        return;
-    }
-    built[0] = m->length;
-    built[1] = m->stage;
-    chp_bytes_put_part(chp_out(m->bytes), m->room, built, more ? 1 : 0, chp_in((const uint8_t *)part), (size_t)length);
-    m->length = built[0];
-    m->stage = built[1];
-}
+static inline void chp_message_add(chp_message *m, const void *part, int64_t length, int more);
 
 /* The frame after *frame in some bytes that hold messages one after another; after {0, 0, 0}, the first one. Returns 1
  * and sets *frame; or returns 0 and leaves *frame, after the last whole message. Of a message that is not whole no
  * frame is given. So the loop above ends on any bytes, and never sends half a message. */
-static inline int chp_next_frame(const uint8_t *bytes, size_t len, chp_frame *frame)
-{
-    uint64_t next[3];
-    next[0] = frame->start;
-    next[1] = frame->length;
-    next[2] = frame->more;
-    if (!chp_bytes_next_frame(chp_in(bytes), len, next)) return 0;
-    frame->start = next[0];
-    frame->length = next[1];
-    frame->more = next[2];
-    return 1;
-}
+static inline int chp_next_frame(const uint8_t *bytes, size_t len, chp_frame *frame);
 
 /* The length of the whole message that some bytes begin with, up to its last frame; 0 if they begin with none. */
-static inline size_t chp_message_length(const uint8_t *bytes, size_t len)
-{
-    return chp_bytes_message_length(chp_in(bytes), len);
-}
+static inline size_t chp_message_length(const uint8_t *bytes, size_t len);
 
 /* The value frame of a message of five frames, whatever they hold: where it starts in msg and how long it is. If the
  * message is refused (see chp_value_refusal), the length is 0. */
-static inline chp_part chp_value(const uint8_t *msg, size_t msg_len)
-{
-    return chp_bytes_value(chp_in(msg), msg_len);
-}
+static inline chp_part chp_value(const uint8_t *msg, size_t msg_len);
 
 /* 0 if msg has five frames; otherwise the refusal, 1 or 2. */
-static inline uint64_t chp_value_refusal(const uint8_t *msg, size_t msg_len)
-{
-    return chp_bytes_value_refusal(chp_in(msg), msg_len);
-}
+static inline uint64_t chp_value_refusal(const uint8_t *msg, size_t msg_len);
 
 /* ---- Names ---- */
 
 /* Whether some bytes are a well-formed key: 1 or 0. */
-static inline int chp_is_key(const uint8_t *bytes, size_t len)
-{
-    return chp_bytes_is_key(chp_in(bytes), len) != 0;
-}
+static inline int chp_is_key(const uint8_t *bytes, size_t len);
 
 /* Whether some bytes are a well-formed subtree: 1 or 0. The empty one is. */
-static inline int chp_is_subtree(const uint8_t *bytes, size_t len)
-{
-    return chp_bytes_is_subtree(chp_in(bytes), len) != 0;
-}
+static inline int chp_is_subtree(const uint8_t *bytes, size_t len);
 
 /* Whether the bytes of a key begin with those of a subtree: 1 or 0. Neither need be well-formed. */
-static inline int chp_is_under(const uint8_t *subtree, size_t subtree_len, const uint8_t *key, size_t key_len)
-{
-    return chp_bytes_is_under(chp_in(subtree), subtree_len, chp_in(key), key_len) != 0;
-}
+static inline int chp_is_under(const uint8_t *subtree, size_t subtree_len, const uint8_t *key, size_t key_len);
 
-/* ---- A check of this header ----
- * Whether this header fits the archive: 1, or 0 if the versions differ, or if a compiler or an option lays out the
- * states in another way. The archive marks both states, and every element is read where this header has it. */
-static inline int chp_marked_table(const chp_table *t)
-{
-    size_t i;
-    int good = t->count == 5;
-    for (i = 0; i < sizeof t->keys; i++) good &= t->keys[i] == 1;
-    for (i = 0; i < sizeof t->values; i++) good &= t->values[i] == 2;
-    for (i = 0; i < CHP_ROWS; i++) good &= t->key_lengths[i] == 3 && t->value_lengths[i] == 4;
-    return good;
-}
+/* ---- A check of this header ---- */
 
-static inline int chp_marked_answer(const chp_answer *a)
-{
-    return a->kind == 11 && a->refusal == 12 && a->number == 13 && a->written == 14;
-}
-
-static inline int chp_layout_agrees(void)
-{
-    size_t i;
-    chp_server_reply s = chp_layout_server();
-    chp_client_reply c = chp_layout_client();
-    int good = chp_archive_version() == CHP_VERSION;
-    good &= chp_marked_table(&s.state.table) && chp_marked_answer(&s.answer);
-    good &= chp_marked_table(&c.state.table) && chp_marked_answer(&c.answer);
-    for (i = 0; i < CHP_ROWS; i++) good &= s.state.numbers[i] == 6 && s.state.expiries[i] == 7;
-    for (i = 0; i < CHP_KEY_MOST; i++) good &= c.state.subtree[i] == 6;
-    good &= s.state.number == 8 && s.state.last_tick == 9 && s.state.last_published == 10;
-    good &= c.state.subtree_length == 7 && c.state.phase == 8 && c.state.number == 9 && c.state.clock == 10;
-    return good;
-}
+/* Whether this header fits the archive: 1, or 0 if the versions differ, or if a compiler or an option lays out the
+ * states in another way. The archive marks each field, and each is read where this header has it. */
+static inline int chp_layout_agrees(void);
 
 #ifdef __cplusplus
 }
 #endif
+
+/* The bodies of these functions, and the functions of the archive that they call. */
+#include "chp_exports.h"
 
 #endif

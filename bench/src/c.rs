@@ -1,4 +1,10 @@
-//! The structs of the C interface.
+//! The structs of the C interface. The states are those of the Rust module, so that the check of the header
+//! holds the module's structs against C's too.
+
+pub use chp::{
+    Client, ClientHeader, ICANHAZ_MOST, KEY_MOST, KVPUB_MOST, NEVER, ROWS, RowBytes, RowLengths, RowStamps,
+    SNAPSHOT_MOST, Server, ServerHeader, VALUE_MOST,
+};
 
 #[repr(C)]
 #[derive(Clone, Copy, PartialEq, Eq, Debug)]
@@ -7,49 +13,6 @@ pub struct Answer {
     pub refusal: u64,
     pub number: u64,
     pub written: u64,
-}
-
-pub const KEY_CELL: usize = 96;
-pub const VALUE_CELL: usize = 256;
-pub const ROWS: usize = 64;
-/// Bytes of the longest KVPUB, snapshot request and snapshot.
-pub const KVPUB_MOST: usize = 521;
-pub const ICANHAZ_MOST: usize = 108;
-pub const SNAPSHOT_MOST: usize = 40_953;
-/// The expiry of a row that has none.
-pub const NEVER: u64 = u64::MAX;
-
-#[repr(C)]
-#[derive(Clone, Copy)]
-pub struct Table {
-    pub keys: [u8; 6400],
-    pub values: [u8; 16384],
-    pub key_lengths: [u64; ROWS],
-    pub value_lengths: [u64; ROWS],
-    pub count: usize,
-}
-
-#[repr(C)]
-#[derive(Clone, Copy)]
-pub struct Server {
-    pub table: Table,
-    pub numbers: [u64; ROWS],
-    pub expiries: [u64; ROWS],
-    pub number: u64,
-    pub last_tick: u64,
-    pub last_published: u64,
-}
-
-#[repr(C)]
-#[derive(Clone, Copy)]
-pub struct Client {
-    pub table: Table,
-    pub subtree: [u8; KEY_CELL],
-    pub subtree_length: u64,
-    /// 0 waiting, any other live.
-    pub phase: u64,
-    pub number: u64,
-    pub clock: u64,
 }
 
 /// A message that is built from parts in a buffer.
@@ -89,11 +52,59 @@ pub struct Row {
     pub expiry: u64,
 }
 
+/// What both states have in common: rows, each with a cell of bytes and their lengths, and how many there are.
+pub trait Table {
+    fn cells(&self) -> &[RowBytes; ROWS];
+    fn cells_mut(&mut self) -> &mut [RowBytes; ROWS];
+    fn lengths(&self) -> &[RowLengths; ROWS];
+    fn lengths_mut(&mut self) -> &mut [RowLengths; ROWS];
+    fn count(&self) -> u64;
+    fn set_count(&mut self, count: u64);
+
+    /// The place of the last row; there is one.
+    fn last(&self) -> usize {
+        self.count() as usize - 1
+    }
+}
+
+macro_rules! table {
+    ($state:ty) => {
+        impl Table for $state {
+            fn cells(&self) -> &[RowBytes; ROWS] {
+                &self.rows
+            }
+
+            fn cells_mut(&mut self) -> &mut [RowBytes; ROWS] {
+                &mut self.rows
+            }
+
+            fn lengths(&self) -> &[RowLengths; ROWS] {
+                &self.lengths
+            }
+
+            fn lengths_mut(&mut self) -> &mut [RowLengths; ROWS] {
+                &mut self.lengths
+            }
+
+            fn count(&self) -> u64 {
+                self.header.count
+            }
+
+            fn set_count(&mut self, count: u64) {
+                self.header.count = count;
+            }
+        }
+    };
+}
+
+table!(Server);
+table!(Client);
+
 /// A state seen as bytes, which it may be made of and compared by.
 ///
 /// # Safety
 /// For structs without padding of which every bit pattern is a value.
-pub unsafe trait Plain: Copy {
+pub unsafe trait Plain: Sized {
     fn bytes(&self) -> &[u8] {
         // SAFETY: no padding, so every byte is initialised.
         unsafe { std::slice::from_raw_parts((&raw const *self).cast(), size_of::<Self>()) }

@@ -1,7 +1,7 @@
 //! The calls that are measured, on either side, with the same inputs.
 
 use crate::c::{self, Plain};
-use crate::functions::Form;
+use crate::form::Form;
 use peer::client::{self, Client};
 use peer::frames::{message_size, write_message};
 use peer::server::{self, Server};
@@ -67,15 +67,14 @@ pub trait Side {
     fn lookup(&mut self, key: &[u8]) -> u64;
 }
 
-pub struct Library {
-    form: &'static Form,
+pub struct Library<F> {
+    form: F,
     server: Box<c::Server>,
     client: Box<c::Client>,
     out: Vec<u8>,
 }
 
 pub struct Peer {
-    in_place: bool,
     server: Box<Server>,
     client: Box<Client>,
     out: Vec<u8>,
@@ -83,8 +82,8 @@ pub struct Peer {
 
 const OUTPUT: usize = 41_000;
 
-impl Library {
-    pub fn new(form: &'static Form) -> Library {
+impl<F: Form> Library<F> {
+    pub fn new(form: F) -> Library<F> {
         let (mut server, mut client) = (c::Server::zeroed(), c::Client::zeroed());
         form.server_start(&mut server, 0, 0);
         form.client_start(&mut client, b"", 0);
@@ -93,13 +92,13 @@ impl Library {
 }
 
 impl Peer {
-    pub fn new(in_place: bool) -> Peer {
+    pub fn new() -> Peer {
         let (server, client) = (Box::new(server::start(0, 0).0), Box::new(client::start(b"", 0).0));
-        Peer { in_place, server, client, out: vec![0; OUTPUT] }
+        Peer { server, client, out: vec![0; OUTPUT] }
     }
 }
 
-impl Side for Library {
+impl<F: Form> Side for Library<F> {
     fn kvset(&mut self, message: &[u8]) -> u64 {
         self.form.server_kvset(&mut self.server, message, 0, &mut self.out).kind
     }
@@ -109,7 +108,7 @@ impl Side for Library {
     }
 
     fn icanhaz(&mut self, request: &[u8]) -> u64 {
-        self.form.server_icanhaz(&mut self.server, request, &mut self.out).kind
+        self.form.server_icanhaz(&self.server, request, &mut self.out).kind
     }
 
     fn snapshot(&mut self, message: &[u8]) -> u64 {
@@ -127,21 +126,11 @@ impl Side for Library {
 
 impl Side for Peer {
     fn kvset(&mut self, message: &[u8]) -> u64 {
-        if self.in_place {
-            return server::kvset_in_place(&mut self.server, message, 0, &mut self.out).kind as u64;
-        }
-        let after = server::kvset(*self.server, message, 0, &mut self.out);
-        *self.server = after.0;
-        after.1.kind as u64
+        server::kvset_in_place(&mut self.server, message, 0, &mut self.out).kind as u64
     }
 
     fn tick(&mut self) -> u64 {
-        if self.in_place {
-            return server::tick_in_place(&mut self.server, 0, &mut self.out).kind as u64;
-        }
-        let after = server::tick(*self.server, 0, &mut self.out);
-        *self.server = after.0;
-        after.1.kind as u64
+        server::tick_in_place(&mut self.server, 0, &mut self.out).kind as u64
     }
 
     fn icanhaz(&mut self, request: &[u8]) -> u64 {
@@ -153,12 +142,7 @@ impl Side for Peer {
     }
 
     fn subscriber(&mut self, message: &[u8]) -> u64 {
-        if self.in_place {
-            return client::subscriber_in_place(&mut self.client, message, 0).kind as u64;
-        }
-        let after = client::subscriber(*self.client, message, 0);
-        *self.client = after.0;
-        after.1.kind as u64
+        client::subscriber_in_place(&mut self.client, message, 0).kind as u64
     }
 
     fn lookup(&mut self, key: &[u8]) -> u64 {

@@ -1,8 +1,12 @@
-//! Holds the header and the archive against what this program takes for granted: how the structs are
-//! laid out, the constants, the version, and that each kind and each refusal has a text.
+//! Holds the header, the Rust module and the archive against each other and against what this program takes for
+//! granted: how the structs are laid out, the constants, the version, and the text of each kind and each refusal.
 
-use crate::c::{self, Answer, Client, Frame, Message, Part, Plain, Row, Server, Table};
-use crate::functions;
+use crate::c::{
+    self, Answer, Client, ClientHeader, Frame, Message, Part, Plain, Row, RowBytes, RowLengths, RowStamps, Server,
+    ServerHeader,
+};
+use crate::functions::{self, Marks};
+use crate::module::numbers;
 use peer::answer::{Kind, Refusal};
 use peer::parts;
 use std::mem::offset_of;
@@ -19,13 +23,17 @@ macro_rules! places {
     };
 }
 
-/// Each struct's size, then the offset of each of its fields.
+/// Each struct's size, then the offset of each of its fields. The states are the module's.
 fn layout() -> Places {
     let mut list = Vec::new();
     places!(list, "chp_answer", Answer, kind, refusal, number, written);
-    places!(list, "chp_table", Table, keys, values, key_lengths, value_lengths, count);
-    places!(list, "chp_server", Server, table, numbers, expiries, number, last_tick, last_published);
-    places!(list, "chp_client", Client, table, subtree, subtree_length, phase, number, clock);
+    places!(list, "chp_row_bytes", RowBytes, key, value);
+    places!(list, "chp_row_lengths", RowLengths, key, value);
+    places!(list, "chp_row_stamps", RowStamps, number, expiry);
+    places!(list, "chp_server_header", ServerHeader, number, last_tick, last_published, count);
+    places!(list, "chp_server", Server, rows, lengths, stamps, header);
+    places!(list, "chp_client_header", ClientHeader, phase, number, clock, subtree_length, count);
+    places!(list, "chp_client", Client, rows, lengths, subtree, header);
     places!(list, "chp_message", Message, bytes, room, length, stage);
     places!(list, "chp_frame", Frame, start, length, more);
     places!(list, "chp_part", Part, start, length);
@@ -33,8 +41,13 @@ fn layout() -> Places {
     list
 }
 
+fn named<const N: usize>(list: [(&str, u64); N]) -> Places {
+    list.map(|(name, number)| (name.to_string(), number)).to_vec()
+}
+
+/// The limits as the peer has them, and the stages.
 fn limits() -> Places {
-    let list = [
+    named([
         ("CHP_ROWS", peer::MAX_ROWS as u64),
         ("CHP_KEY_MOST", peer::KEY_ROOM as u64),
         ("CHP_VALUE_MOST", peer::VALUE_ROOM as u64),
@@ -43,11 +56,11 @@ fn limits() -> Places {
         ("CHP_IDENTITY_MOST", 255),
         ("CHP_NUMBER_MOST", peer::NUMBER_MAX),
         ("CHP_TICK_MOST", peer::TICK_MAX),
-        ("CHP_NEVER", c::NEVER),
-        ("CHP_KVPUB_MOST", c::KVPUB_MOST as u64),
+        ("CHP_NEVER", u64::MAX),
+        ("CHP_KVPUB_MOST", 521),
         ("CHP_HUGZ_LENGTH", 22),
-        ("CHP_ICANHAZ_MOST", c::ICANHAZ_MOST as u64),
-        ("CHP_SNAPSHOT_MOST", c::SNAPSHOT_MOST as u64),
+        ("CHP_ICANHAZ_MOST", 108),
+        ("CHP_SNAPSHOT_MOST", 40_953),
         ("CHP_KVSET_ROOM", parts::KVSET_ROOM as u64),
         ("CHP_ICANHAZ_ROOM", parts::ICANHAZ_ROOM as u64),
         ("CHP_SNAPSHOT_ROOM", parts::SNAPSHOT_ROOM as u64),
@@ -55,8 +68,30 @@ fn limits() -> Places {
         ("CHP_OPEN", parts::OPEN),
         ("CHP_WHOLE", parts::WHOLE),
         ("CHP_VOID", parts::VOID),
-    ];
-    list.map(|(name, number)| (name.to_string(), number)).to_vec()
+    ])
+}
+
+/// The same limits as the module has them.
+fn module_limits() -> Places {
+    named([
+        ("CHP_ROWS", chp::ROWS as u64),
+        ("CHP_KEY_MOST", chp::KEY_MOST as u64),
+        ("CHP_VALUE_MOST", chp::VALUE_MOST as u64),
+        ("CHP_PROPERTIES_MOST", chp::PROPERTIES_MOST as u64),
+        ("CHP_UUID_LENGTH", chp::UUID_LENGTH as u64),
+        ("CHP_IDENTITY_MOST", chp::IDENTITY_MOST as u64),
+        ("CHP_NUMBER_MOST", chp::NUMBER_MOST),
+        ("CHP_TICK_MOST", chp::TICK_MOST),
+        ("CHP_NEVER", chp::NEVER),
+        ("CHP_KVPUB_MOST", chp::KVPUB_MOST as u64),
+        ("CHP_HUGZ_LENGTH", chp::HUGZ_LENGTH as u64),
+        ("CHP_ICANHAZ_MOST", chp::ICANHAZ_MOST as u64),
+        ("CHP_SNAPSHOT_MOST", chp::SNAPSHOT_MOST as u64),
+        ("CHP_KVSET_ROOM", chp::KVSET_ROOM as u64),
+        ("CHP_ICANHAZ_ROOM", chp::ICANHAZ_ROOM as u64),
+        ("CHP_SNAPSHOT_ROOM", chp::SNAPSHOT_ROOM as u64),
+        ("CHP_SUBSCRIBER_ROOM", chp::SUBSCRIBER_ROOM as u64),
+    ])
 }
 
 fn kinds() -> Places {
@@ -76,7 +111,7 @@ fn kinds() -> Places {
         ("CHP_PRESENT", Kind::Present),
         ("CHP_GONE", Kind::Gone),
     ];
-    list.map(|(name, kind)| (name.to_string(), kind as u64)).to_vec()
+    named(list.map(|(name, kind)| (name, kind as u64)))
 }
 
 fn refusals() -> Places {
@@ -98,36 +133,43 @@ fn refusals() -> Places {
         ("CHP_BAD_IDENTITY", Refusal::Identity),
         ("CHP_ILL_FORMED", Refusal::State),
     ];
-    let accepted = ("CHP_ACCEPTED".to_string(), 0);
-    let refusals = list.map(|(name, refusal)| (name.to_string(), refusal as u64));
-    [accepted].into_iter().chain(refusals).collect()
+    let refusals = named(list.map(|(name, refusal)| (name, refusal as u64)));
+    [named([("CHP_ACCEPTED", 0)]), refusals].concat()
 }
 
-/// Whether the archive's marks, 1, 2, 3 and so on in the order of the fields, lie where this program
-/// has the fields.
+/// Whether the archive's marks, 1, 2, 3 and so on in the order of the fields, lie where the header and the module
+/// have the fields, and the archive has as many rows.
 fn marks_are_right() -> bool {
-    let answer = |first| Answer { kind: first, refusal: first + 1, number: first + 2, written: first + 3 };
-    let table = |t: &Table| {
-        let bytes = t.keys.iter().all(|mark| *mark == 1) && t.values.iter().all(|mark| *mark == 2);
-        bytes && t.key_lengths == [3; 64] && t.value_lengths == [4; 64] && t.count == 5
+    let expected = Marks {
+        row: RowBytes { key: [1; c::KEY_MOST], value: [2; c::VALUE_MOST] },
+        lengths: RowLengths { key: 3, value: 4 },
+        stamps: RowStamps { number: 5, expiry: 6 },
+        server: ServerHeader { number: 7, last_tick: 8, last_published: 9, count: 10 },
+        subtree: [11; c::KEY_MOST],
+        client: ClientHeader { phase: 12, number: 13, clock: 14, subtree_length: 15, count: 16 },
+        answer: Answer { kind: 17, refusal: 18, number: 19, written: 20 },
     };
-    let (mut s, mut c) = (Server::zeroed(), Client::zeroed());
-    let answers = [functions::layout_server(&mut s), functions::layout_client(&mut c)];
-    let server = table(&s.table)
-        && (s.numbers, s.expiries) == ([6; 64], [7; 64])
-        && (s.number, s.last_tick, s.last_published) == (8, 9, 10);
-    let client =
-        table(&c.table) && c.subtree == [6; 96] && (c.subtree_length, c.phase, c.number, c.clock) == (7, 8, 9, 10);
-    functions::layout_agrees() && server && client && answers == [answer(11), answer(11)]
+    let mut marks = Marks {
+        row: RowBytes { key: [0; c::KEY_MOST], value: [0; c::VALUE_MOST] },
+        lengths: RowLengths { key: 0, value: 0 },
+        stamps: RowStamps { number: 0, expiry: 0 },
+        server: ServerHeader { number: 0, last_tick: 0, last_published: 0, count: 0 },
+        subtree: [0; c::KEY_MOST],
+        client: ClientHeader { phase: 0, number: 0, clock: 0, subtree_length: 0, count: 0 },
+        answer: Answer { kind: 0, refusal: 0, number: 0, written: 0 },
+    };
+    let rows = functions::layout_marks(&mut marks);
+    rows == c::ROWS as u64 && marks == expected && functions::layout_agrees() && chp::layout_agrees()
 }
 
-/// The version's number is made of its three parts, and the archive was built as it.
+/// The version's number is made of its three parts, and the archive was built as it, and the module is for it.
 fn version_is_right() -> bool {
     let [major, minor, patch, all] = functions::version();
     let archive = functions::archive_version();
-    let right = minor < 1000 && patch < 1000 && all == major * 1_000_000 + minor * 1000 + patch && archive == all;
+    let made_of_parts = minor < 1000 && patch < 1000 && all == major * 1_000_000 + minor * 1000 + patch;
+    let right = made_of_parts && archive == all && chp::VERSION == all;
     let judged = if right { "the same" } else { "NOT the same" };
-    println!("header: version {major}.{minor}.{patch} ({all}), archive {archive}, {judged}");
+    println!("header: version {major}.{minor}.{patch} ({all}), archive {archive}, module {}, {judged}", chp::VERSION);
     right
 }
 
@@ -140,26 +182,83 @@ fn texts_are_right(text: fn(u64) -> String, last: u64) -> bool {
     unknown && different && !texts.iter().any(|text| text.is_empty() || text == "unknown")
 }
 
+/// The module's refusals have the header's numbers and texts, and there are no others.
+fn module_refusals_are_right() -> bool {
+    let right = |number| {
+        let found = chp::Refusal::of(number);
+        found.is_some_and(|refusal| refusal as u64 == number && refusal.text() == functions::refusal_text(number))
+    };
+    (1..=16).all(right) && [0, 17, u64::MAX].map(chp::Refusal::of) == [None; 3]
+}
+
+/// The module's answers have the header's texts and give their numbers back.
+fn module_answers_are_right() -> bool {
+    use chp::Answer as A;
+    let (refusal, number, written) = (chp::Refusal::Full, 7, 5);
+    let answers = [
+        A::Refused { refusal, number },
+        A::Started { number },
+        A::Applied { number },
+        A::Stale { number },
+        A::Outside { number },
+        A::Synced { number },
+        A::Live { number },
+        A::Heard { number },
+        A::Wrote { number, written },
+        A::Nothing { number },
+        A::Found { number, written },
+        A::Absent { number },
+        A::Present { number },
+        A::Gone { number },
+    ];
+    let right = |(kind, answer): (usize, &A)| {
+        let asked = (answer.refusal().map_or(0, |refusal| refusal as u64), answer.number(), answer.written() as u64);
+        let Answer { kind: numbered, refusal, number, written } = numbers(*answer);
+        let shown = if kind == 0 { "refused: the table is full" } else { answer.text() };
+        let texts = answer.text() == functions::kind_text(numbered) && answer.to_string() == shown;
+        numbered == kind as u64 && (refusal, number, written) == asked && texts
+    };
+    answers.iter().enumerate().all(right)
+}
+
+/// The module's new states are zeros, and any phase but 0 is live.
+fn module_states_are_right() -> bool {
+    let (s, mut c) = (Server::boxed(), Client::boxed());
+    let zeros = s.bytes().iter().chain(c.bytes()).all(|byte| *byte == 0);
+    let phases = [0, 1, 2, 256, 1 << 32, u64::MAX];
+    zeros
+        && phases.iter().all(|phase| {
+            c.header.phase = *phase;
+            c.is_live() == (*phase != 0)
+        })
+}
+
+/// Whether each of our places is the same in C; prints each that is not.
+fn are_in_c(what: &str, ours: &Places, theirs: &Places) -> bool {
+    let mut same = true;
+    for (name, number) in ours {
+        let their = theirs.iter().find(|their| their.0 == *name).map(|their| their.1);
+        if their != Some(*number) {
+            println!("header: {name} is {number} here and {their:?} in C");
+            same = false;
+        }
+    }
+    println!("header: {} {what}, {}", ours.len(), if same { "all the same" } else { "NOT the same" });
+    same
+}
+
 /// Whether all agrees; prints each place where it does not.
 pub fn check() -> bool {
     let ours = [layout(), limits(), kinds(), refusals()].concat();
     let theirs = functions::layout();
-    let mut same = ours.len() == theirs.len();
-    for (our, their) in ours.iter().zip(&theirs) {
-        if our != their {
-            println!("header: {} is {} here and {} is {} in C", our.0, our.1, their.0, their.1);
-            same = false;
-        }
-    }
-    println!(
-        "header: {} sizes, offsets and constants, {}",
-        ours.len(),
-        if same { "all the same" } else { "NOT the same" }
-    );
+    let same = are_in_c("sizes, offsets and constants", &ours, &theirs) && ours.len() == theirs.len();
+    let module = are_in_c("limits of the Rust module", &module_limits(), &theirs);
     let version = version_is_right();
     let marks = marks_are_right();
     println!("header: the archive's marks {}", if marks { "in place" } else { "NOT in place" });
     let texts = texts_are_right(functions::kind_text, 13) && texts_are_right(functions::refusal_text, 16);
     println!("header: texts {}", if texts { "in order" } else { "NOT in order" });
-    same && version && marks && texts
+    let answers = module_refusals_are_right() && module_answers_are_right() && module_states_are_right();
+    println!("header: answers and states of the Rust module {}", if answers { "in order" } else { "NOT in order" });
+    same && module && version && marks && texts && answers
 }

@@ -1,16 +1,17 @@
 //! Instructions per call, counted by valgrind's callgrind over runs of this program.
 
 use crate::cases::{Bench, CASES, KEYS, Keys, Library, Peer, Side};
-use crate::functions::{BY_VALUE, LENT};
+use crate::functions::Header;
 use crate::measure::{print_head, print_row};
+use crate::module::Module;
 use std::hint::black_box;
 use std::path::Path;
 use std::process::Command;
 
 const CALLS: u64 = 20;
 
-/// Callgrind counts a `rep movsb` as one instruction for each byte. So that the copy of a state is
-/// not counted as some 25,000, the C library is told to copy by vector instructions instead.
+/// Callgrind counts a `rep movsb` as one instruction for each byte. So that moving rows is not counted
+/// as some 20,000, the C library is told to copy by vector instructions instead.
 const COPYING: (&str, &str) = ("GLIBC_TUNABLES", "glibc.cpu.x86_rep_movsb_threshold=1000000000");
 
 /// Callgrind counts between entering and leaving this function alone, so it needs a plain name and
@@ -36,10 +37,9 @@ pub fn count(case: &str, keys: &str, who: &str, calls: u64) -> bool {
         return false;
     };
     match who {
-        "library" => make_calls(Bench::new(Library::new(&LENT), case, keys), calls),
-        "peer" => make_calls(Bench::new(Peer::new(true), case, keys), calls),
-        "library-by-value" => make_calls(Bench::new(Library::new(&BY_VALUE), case, keys), calls),
-        "peer-by-value" => make_calls(Bench::new(Peer::new(false), case, keys), calls),
+        "library" => make_calls(Bench::new(Library::new(Header), case, keys), calls),
+        "peer" => make_calls(Bench::new(Peer::new(), case, keys), calls),
+        "library-by-rust" => make_calls(Bench::new(Library::new(Module), case, keys), calls),
         _ => return false,
     }
     true
@@ -71,8 +71,8 @@ fn table(folder: &Path) -> Option<()> {
     print_head();
     for (_, case, title) in CASES {
         for keys in KEYS {
-            let mut measured = [0.0; 4];
-            for (count, who) in measured.iter_mut().zip(["library", "peer", "library-by-value", "peer-by-value"]) {
+            let mut measured = [0.0; 3];
+            for (count, who) in measured.iter_mut().zip(["library", "peer", "library-by-rust"]) {
                 *count = counted(case, keys, who, folder)? as f64;
             }
             print_row(title, keys, measured);

@@ -3,23 +3,28 @@
 mod c;
 mod cases;
 mod compare;
+mod form;
 mod functions;
 mod header;
 mod instructions;
 mod measure;
+mod module;
 mod random;
 
-use functions::{BY_VALUE, LENT};
+use form::Form;
+use functions::Header;
+use module::Module;
 use std::process::ExitCode;
 
-const USAGE: &str = "usage: bench header                            structs, constants, version and texts of the header
-       bench compare [CALLS [SEED]]            calls in step; all that can come up must come up
-       bench compare-by-value [CALLS [SEED]]   the same with the library's calls that take states by value
-       bench sample [CALLS [SEED]]             as compare, but at random alone, and not all must come up
-       bench measure                           nanoseconds per call
-       bench instructions                      instructions per call, by valgrind
-       bench count CASE KEYS WHO CALLS         one case, for callgrind; WHO is library, peer, library-by-value
-                                               or peer-by-value
+const USAGE: &str =
+    "usage: bench header                       structs, constants, version and texts of header and module
+       bench compare [CALLS [SEED]]       calls in step; all that can come up must come up
+       bench compare-rust [CALLS [SEED]]  the same through the Rust module
+       bench sample [CALLS [SEED]]        as compare, but at random alone, and not all must come up
+       bench sample-rust [CALLS [SEED]]   the same through the Rust module
+       bench measure                      nanoseconds per call
+       bench instructions                 instructions per call, by valgrind
+       bench count CASE KEYS WHO CALLS    one case, for callgrind; WHO is library, peer or library-by-rust
 
 CALLS counts the random calls on states. The calls over all lengths and places, and those on parts, frames,
 rows and names, come with them.";
@@ -30,15 +35,16 @@ fn number(arguments: &[String], at: usize, otherwise: u64) -> Option<u64> {
 
 /// Whether the command was understood and went well.
 fn obey(arguments: &[String]) -> Option<bool> {
-    let compare = |form, all| {
+    let compare = |form: &'static dyn Form, all| {
         let (calls, seed) = (number(arguments, 2, 1_000_000)?, number(arguments, 3, 12)?);
         Some(compare::run(form, calls, seed, all))
     };
     match arguments.get(1)?.as_str() {
         "header" => Some(header::check()),
-        "compare" => compare(&LENT, true),
-        "compare-by-value" => compare(&BY_VALUE, true),
-        "sample" => compare(&LENT, false),
+        "compare" => compare(&Header, true),
+        "compare-rust" => compare(&Module, true),
+        "sample" => compare(&Header, false),
+        "sample-rust" => compare(&Module, false),
         "measure" => Some(measure::run()),
         "instructions" => Some(instructions::run()),
         "count" => {

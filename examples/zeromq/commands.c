@@ -56,7 +56,7 @@ static void print_edit(const desk *d, const edit *e, const char *what)
     print_bytes(e->key, e->key_length);
     if (e->value_length > 0) printf(" = ");
     print_bytes(e->value, e->value_length);
-    printf(" %s at number %" PRIu64 "\n", what, d->client.number);
+    printf(" %s at number %" PRIu64 "\n", what, d->client.header.number);
 }
 
 /* Whether the map has the edit, at a number above the one at which it was first sent. */
@@ -80,7 +80,7 @@ static void settle_edit(desk *d, edit *e)
         print_edit(d, e, "is given up");
         e->key_length = 0;
     } else if (e->times == 0 || d->now - e->sent >= AGAIN_MS) {
-        if (e->times == 0) e->number = d->client.number;
+        if (e->times == 0) e->number = d->client.header.number;
         e->times++;
         e->sent = d->now;
         send_update(d, e->key, e->key_length, e->value, e->value_length);
@@ -90,7 +90,7 @@ static void settle_edit(desk *d, edit *e)
 void settle_edits(desk *d)
 {
     size_t i;
-    if (!d->client.phase) return;
+    if (!d->client.header.phase) return;
     for (i = 0; i < EDITS; i++)
         if (d->edits[i].key_length > 0) settle_edit(d, &d->edits[i]);
 }
@@ -195,8 +195,8 @@ static void map(desk *d, char *rest)
         printf("%s: ", d->name);
         print_row(&row);
     }
-    printf("%s: %u rows at number %" PRIu64 "%s\n", d->name, (unsigned)i, d->client.number,
-        d->client.phase ? "" : ", waiting for the snapshot");
+    printf("%s: %u rows at number %" PRIu64 "%s\n", d->name, (unsigned)i, d->client.header.number,
+        d->client.header.phase ? "" : ", waiting for the snapshot");
 }
 
 static void look(desk *d, char *key)

@@ -74,7 +74,7 @@ static void take_answer(desk *d)
     } else if (a.kind == CHP_LIVE) {
         close_dealer(d);
         d->quiet = 0;
-        printf("%s: live at number %" PRIu64 " with %u rows\n", d->name, a.number, (unsigned)d->client.table.count);
+        printf("%s: live at number %" PRIu64 " with %u rows\n", d->name, a.number, (unsigned)d->client.header.count);
     }
 }
 
@@ -85,7 +85,7 @@ static void follow(desk *d)
 {
     uint8_t buffer[CHP_SUBSCRIBER_ROOM];
     chp_message message = chp_message_in(buffer, sizeof buffer);
-    uint64_t before = d->client.number;
+    uint64_t before = d->client.header.number;
     chp_answer a;
     if (receive(d->subscriber, &message) != 0) fail("published message");
     d->quiet = 0;
@@ -105,7 +105,7 @@ static void take_message(desk *d)
 {
     if (d->dealer)
         take_answer(d);
-    else if (!d->client.phase)
+    else if (!d->client.header.phase)
         ask(d);
     else
         follow(d);
@@ -121,12 +121,17 @@ static void read_clock(desk *d)
 
 /* The library's silence clock knows HUGZ alone, and a server that publishes updates all the time sends none. So the
  * desk asks only if there was no update either. */
+static int is_silent(const desk *d)
+{
+    return d->client.header.phase && d->quiet > SILENCE_MS && chp_client_ask(&d->client, d->now).kind != CHP_PRESENT;
+}
+
 static void check_patience(desk *d)
 {
     if (d->dealer && d->now - d->asked > PATIENCE_MS) {
         printf("%s: no complete answer; starting anew\n", d->name);
         listen_anew(d);
-    } else if (d->client.phase && d->quiet > SILENCE_MS && chp_client_ask(&d->client, d->now).kind != CHP_PRESENT) {
+    } else if (is_silent(d)) {
         printf("%s: the server is silent; starting anew\n", d->name);
         listen_anew(d);
     }

@@ -110,7 +110,7 @@ static void print_map(const host *h)
     chp_row row;
     size_t i;
     for (i = 0; chp_server_row(&h->server, i, &row); i++) print_row(&row);
-    printf("server: %u rows at number %" PRIu64 "\n", (unsigned)i, h->server.number);
+    printf("server: %u rows at number %" PRIu64 "\n", (unsigned)i, h->server.header.number);
 }
 
 /* Each round takes at most one message from each socket, so neither has to wait for the other, and tells the time if a

@@ -6,8 +6,9 @@ use crate::compare::caller::Caller;
 use crate::compare::counts::{Entry, GIVEN, Sort};
 use crate::compare::fields::{self, FAR};
 use crate::compare::lockstep::{ClientPair, GUARD, MOST_ROOM, ServerPair, as_c, hex};
-use crate::compare::parts::{Building, Part, sent};
+use crate::compare::parts::{Building, sent};
 use crate::compare::{names, plant};
+use crate::form::Part;
 use peer::answer::{Answer, Refusal};
 use peer::frames::{self, frame_length};
 use peer::parts::{Built, ICANHAZ_ROOM, KVSET_ROOM, OPEN, SNAPSHOT_ROOM, SUBSCRIBER_ROOM, VOID, WHOLE};
@@ -87,8 +88,8 @@ impl Caller {
             let subtree = if random.percent(50) { Vec::new() } else { names::subtree(random) };
             plant::client(random, 10, &subtree)
         });
-        (clients[0].phase, clients[0].number) = (0, 0);
-        clients[1].phase = 1;
+        (clients[0].header.phase, clients[0].header.number) = (0, 0);
+        clients[1].header.phase = 1;
         let [waiting, live] = clients.map(ClientPair::of);
         Ends { server: ServerPair::of(server), waiting, live }
     }
@@ -139,7 +140,7 @@ impl Caller {
             }
             _ if !longest && self.random.percent(15) => fields::hugz(),
             _ => {
-                let number = self.number_near(ends.live.lib.number);
+                let number = self.number_near(ends.live.lib.header.number);
                 let key = self.client_key(&ends.live);
                 fields::update(&mut self.random, self.mix, key, number.to_be_bytes().to_vec())
             }
@@ -238,7 +239,7 @@ impl Caller {
     fn hand_in(&mut self, ends: &mut Ends, arrival: &Arrival) {
         let bytes = arrival.message.bytes();
         let Ends { server, waiting, live } = ends;
-        let tick = server.lib.last_tick;
+        let tick = server.lib.header.last_tick;
         let number = server.peer.number;
         let expected = arrival.expect(number, |sent| server::kvset(*server.peer, sent, tick, &mut [0; KVPUB_MOST]).1);
         let answer = self.run.kvset(server, bytes, tick);
@@ -253,7 +254,7 @@ impl Caller {
         let answer = self.run.snapshot(waiting, bytes);
         self.judge(Entry::Snapshot, Some(SNAPSHOT_ROOM), arrival, expected, answer);
 
-        let tick = live.lib.clock;
+        let tick = live.lib.header.clock;
         let expected = arrival.expect(live.peer.number, |sent| client::subscriber(*live.peer, sent, tick).1);
         let answer = self.run.subscriber(live, bytes, tick);
         self.judge(Entry::Subscriber, Some(SUBSCRIBER_ROOM), arrival, expected, answer);
@@ -380,8 +381,11 @@ impl Caller {
         self.run.message_in(room)
     }
 
-    /// Parts added to a message of any length and any stage.
+    /// Parts added to a message of any length and any stage, where one can be handed in.
     pub fn odd_messages(&mut self) {
+        if !self.run.form.takes_any_numbers() {
+            return;
+        }
         for _ in 0..4 {
             let mut message = self.any_message();
             let room = message.room as u64;

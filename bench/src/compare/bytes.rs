@@ -4,7 +4,6 @@ use crate::c;
 use crate::compare::counts::{Entry, GIVEN};
 use crate::compare::inputs;
 use crate::compare::lockstep::{Lockstep, exact, hex};
-use crate::functions;
 use peer::{frames, names};
 
 impl Lockstep {
@@ -21,11 +20,11 @@ impl Lockstep {
         self.record(entry, answer, problem, call)
     }
 
-    /// Both value entries, as one answer in which the value counts as written. Where the empty part of
+    /// The value entries, as one answer in which the value counts as written. Where the empty part of
     /// a refused message lies is free, as long as it lies in the message.
     pub fn value(&mut self, message: &[u8]) -> c::Answer {
         let message = &*exact(message);
-        let (part, refusal) = (functions::value(message), functions::value_refusal(message));
+        let (part, refusal) = self.form.value(message);
         let expected = frames::value(message);
         let expected_refusal = expected.err().map(|refusal| refusal as u64);
         let value = expected.unwrap_or(b"");
@@ -41,7 +40,7 @@ impl Lockstep {
 
     pub fn message_length(&mut self, bytes: &[u8]) -> usize {
         let bytes = &*exact(bytes);
-        let lib = functions::message_length(bytes);
+        let lib = self.form.message_length(bytes);
         let expected = frames::message_length(bytes);
         let problem = (lib != expected.unwrap_or(0)).then(|| format!("library {lib}, peer {expected:?}"));
         let call = || format!("bytes {}", hex(bytes));
@@ -52,20 +51,20 @@ impl Lockstep {
     pub fn is_key(&mut self, bytes: &[u8]) {
         let bytes = &*exact(bytes);
         inputs::note_key(&mut self.counts, bytes);
-        self.yes_or_no(Entry::IsKey, functions::is_key(bytes), names::is_key(bytes), || hex(bytes));
+        self.yes_or_no(Entry::IsKey, self.form.is_key(bytes), names::is_key(bytes), || hex(bytes));
     }
 
     pub fn is_subtree(&mut self, bytes: &[u8]) {
         let bytes = &*exact(bytes);
         inputs::note_subtree(&mut self.counts, bytes);
-        self.yes_or_no(Entry::IsSubtree, functions::is_subtree(bytes), names::is_subtree(bytes), || hex(bytes));
+        self.yes_or_no(Entry::IsSubtree, self.form.is_subtree(bytes), names::is_subtree(bytes), || hex(bytes));
     }
 
     pub fn is_under(&mut self, subtree: &[u8], key: &[u8]) {
         let (subtree, key) = (&*exact(subtree), &*exact(key));
         inputs::note_under(&mut self.counts, subtree, key);
         let call = || format!("subtree {} key {}", hex(subtree), hex(key));
-        self.yes_or_no(Entry::IsUnder, functions::is_under(subtree, key), names::is_under(subtree, key), call);
+        self.yes_or_no(Entry::IsUnder, self.form.is_under(subtree, key), names::is_under(subtree, key), call);
     }
 
     fn yes_or_no(&mut self, entry: Entry, lib: i32, peer: bool, call: impl FnOnce() -> String) {

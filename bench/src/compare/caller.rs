@@ -9,7 +9,7 @@ use peer::{NUMBER_MAX, TICK_MAX};
 
 /// The client's subtree, as far as there is room for one.
 fn held_subtree(pair: &ClientPair) -> &[u8] {
-    &pair.lib.subtree[..pair.lib.subtree_length.min(96) as usize]
+    &pair.lib.subtree[..pair.lib.header.subtree_length.min(96) as usize]
 }
 
 pub struct Caller {
@@ -58,12 +58,12 @@ impl Caller {
         if (5..8).contains(&kind) {
             wire::damage(&mut self.random, &mut message);
         }
-        let tick = if kind >= 8 { self.bad_tick(pair.lib.last_tick) } else { tick };
+        let tick = if kind >= 8 { self.bad_tick(pair.lib.header.last_tick) } else { tick };
         self.run.kvset(pair, &message, tick)
     }
 
     pub fn bad_server_tick(&mut self, pair: &mut ServerPair) -> c::Answer {
-        let tick = self.bad_tick(pair.lib.last_tick);
+        let tick = self.bad_tick(pair.lib.header.last_tick);
         self.run.tick(pair, tick)
     }
 
@@ -144,11 +144,11 @@ impl Caller {
 
     /// A KVPUB or HUGZ that no server wrote.
     pub fn forged_publication(&mut self, pair: &mut ClientPair, tick: u64) -> c::Answer {
-        let tick = if self.random.percent(20) { self.bad_tick(pair.lib.clock) } else { tick };
+        let tick = if self.random.percent(20) { self.bad_tick(pair.lib.header.clock) } else { tick };
         let message = if self.random.percent(25) {
             self.perhaps_bad(fields::hugz(), fields::spoil_empty_middle)
         } else {
-            let sequence = self.number_near(pair.lib.number).to_be_bytes().to_vec();
+            let sequence = self.number_near(pair.lib.header.number).to_be_bytes().to_vec();
             let key = self.client_key(pair);
             let kvpub = fields::update(&mut self.random, self.mix, key, sequence);
             self.perhaps_bad(kvpub, fields::spoil_update)
@@ -159,7 +159,7 @@ impl Caller {
     /// A KVSYNC or KTHXBAI that no server wrote.
     pub fn forged_snapshot(&mut self, pair: &mut ClientPair) -> c::Answer {
         let five = if self.random.percent(15) {
-            let number = self.number_near(pair.lib.number);
+            let number = self.number_near(pair.lib.header.number);
             fields::kthxbai(number, &self.subtree_near(pair))
         } else {
             let key = self.client_key(pair);
@@ -182,7 +182,7 @@ impl Caller {
 
     /// Asks at, just before and just after the end of the silence, and elsewhere.
     pub fn ask(&mut self, pair: &mut ClientPair, tick: u64) -> c::Answer {
-        let clock = pair.lib.clock;
+        let clock = pair.lib.header.clock;
         let bad = self.bad_tick(clock);
         let end = clock.saturating_add(5000);
         let tick = self.random.pick(&[tick, tick, end, end.saturating_add(1), end - 1, clock, TICK_MAX, bad, bad]);

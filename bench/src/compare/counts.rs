@@ -142,7 +142,7 @@ const INPUTS: [&str; 38] = [
 ];
 
 /// The same of parts that are added to a message.
-const PARTS: [&str; 30] = [
+const PARTS: [&str; 31] = [
     "room of 0 bytes",
     "room of 1 byte",
     "room of 521 bytes",
@@ -172,6 +172,7 @@ const PARTS: [&str; 30] = [
     "length near 2^64",
     "part of length -1",
     "part of length -2^63",
+    "part that was lost",
     "more neither 0 nor 1, fits",
 ];
 
@@ -244,6 +245,26 @@ const TOPICS: [(Topic, &str, &[&str]); 5] = [
     (Topic::Name, "Names asked about", &NAMES),
 ];
 
+/// What can be said through the header alone, where any numbers can be handed in. The Rust module takes slices and
+/// flags, and keeps its place in a message or a walk: a walk through it never stands in a message that is not whole.
+const THROUGH_HEADER_ALONE: [(Topic, &str); 12] = [
+    (Topic::Part, "stage above 2"),
+    (Topic::Part, "length above the room"),
+    (Topic::Part, "length near 2^64"),
+    (Topic::Part, "part of length -1"),
+    (Topic::Part, "part of length -2^63"),
+    (Topic::Part, "more neither 0 nor 1, fits"),
+    (Topic::Walk, "frame inside a message that is not whole"),
+    (Topic::Walk, "broken frame inside a message"),
+    (Topic::Walk, "past the end"),
+    (Topic::Walk, "start + length of 2^64 or more"),
+    (Topic::Walk, "more above 1, frame"),
+    (Topic::Walk, "more above 1, none"),
+];
+
+/// What can be said through the Rust module alone, which has a call in place of negative lengths.
+const THROUGH_MODULE_ALONE: [(Topic, &str); 1] = [(Topic::Part, "part that was lost")];
+
 /// What is counted by name and entry.
 #[derive(Clone, Copy, PartialEq, Eq, PartialOrd, Ord)]
 pub enum Sort {
@@ -252,8 +273,9 @@ pub enum Sort {
     Built,
 }
 
-#[derive(Default)]
 pub struct Counts {
+    /// Whether the calls take any numbers, as those through the header do.
+    pub any_numbers: bool,
     kinds: BTreeMap<(usize, u64), u64>,
     refusals: BTreeMap<(usize, u64), u64>,
     sorts: BTreeMap<(Sort, String, usize), u64>,
@@ -261,6 +283,17 @@ pub struct Counts {
 }
 
 impl Counts {
+    pub fn new(any_numbers: bool) -> Counts {
+        let (kinds, refusals) = (BTreeMap::new(), BTreeMap::new());
+        Counts { any_numbers, kinds, refusals, sorts: BTreeMap::new(), inputs: BTreeMap::new() }
+    }
+
+    /// Whether calls of this form can have such an input.
+    fn can_come_up(&self, input: (Topic, &str)) -> bool {
+        let others: &[(Topic, &str)] = if self.any_numbers { &THROUGH_MODULE_ALONE } else { &THROUGH_HEADER_ALONE };
+        !others.contains(&input)
+    }
+
     pub fn kind(&mut self, entry: Entry, kind: u64) {
         *self.kinds.entry((entry as usize, kind)).or_default() += 1;
     }
@@ -291,9 +324,10 @@ impl Counts {
             println!("\n{title}\n");
             for name in names {
                 let count = self.inputs.get(&(topic, name)).copied().unwrap_or(0);
-                println!("{name:<44}{count:>9}");
-                if count == 0 {
-                    gaps.push(format!("{title}: never {name}"));
+                let expected = self.can_come_up((topic, name));
+                println!("{name:<44}{:>9}", if expected || count > 0 { count.to_string() } else { "-".to_string() });
+                if expected != (count > 0) {
+                    gaps.push(format!("{title}: {name} {}", fault(expected)));
                 }
             }
         }
@@ -338,8 +372,7 @@ impl Counts {
                 let expected = allowed(rule).contains(&column);
                 print!("{:>8}", if expected || count > 0 { count.to_string() } else { "-".to_string() });
                 if expected != (count > 0) {
-                    let fault = if expected { "never came up" } else { "must not come up" };
-                    gaps.push(format!("{}: {} {fault}", rule.name, name(column)));
+                    gaps.push(format!("{}: {} {}", rule.name, name(column), fault(expected)));
                 }
             }
             println!();
@@ -383,6 +416,11 @@ impl Counts {
             println!();
         }
     }
+}
+
+/// What is wrong with a count of something that was expected, or was not.
+fn fault(expected: bool) -> &'static str {
+    if expected { "never came up" } else { "must not come up" }
 }
 
 fn print_head(names: impl Iterator<Item = String>) {

@@ -1,6 +1,6 @@
 //! Each entry that takes a state, on both sides.
 
-use crate::c::{self, ICANHAZ_MOST, KVPUB_MOST, SNAPSHOT_MOST, VALUE_CELL};
+use crate::c::{self, ICANHAZ_MOST, KVPUB_MOST, SNAPSHOT_MOST, VALUE_MOST};
 use crate::compare::counts::Entry;
 use crate::compare::inputs;
 use crate::compare::lockstep::{ClientPair, Lockstep, ServerPair, exact, hex};
@@ -20,7 +20,7 @@ impl Lockstep {
     pub fn kvset(&mut self, pair: &mut ServerPair, message: &[u8], tick: u64) -> c::Answer {
         let message = &*exact(message);
         inputs::note_five(&mut self.counts, message);
-        inputs::note_tick(&mut self.counts, tick, pair.lib.last_tick);
+        inputs::note_tick(&mut self.counts, tick, pair.lib.header.last_tick);
         let length = self.choose_length(KVPUB_MOST, |out| server::kvset(*pair.peer, message, tick, out).1);
         let form = self.form;
         let lib = |s: &mut c::Server, out: &mut [u8]| form.server_kvset(s, message, tick, out);
@@ -30,7 +30,7 @@ impl Lockstep {
     }
 
     pub fn tick(&mut self, pair: &mut ServerPair, tick: u64) -> c::Answer {
-        inputs::note_tick(&mut self.counts, tick, pair.lib.last_tick);
+        inputs::note_tick(&mut self.counts, tick, pair.lib.header.last_tick);
         let length = self.choose_length(KVPUB_MOST, |out| server::tick(*pair.peer, tick, out).1);
         let form = self.form;
         let lib = |s: &mut c::Server, out: &mut [u8]| form.server_tick(s, tick, out);
@@ -82,7 +82,7 @@ impl Lockstep {
     pub fn subscriber(&mut self, pair: &mut ClientPair, message: &[u8], tick: u64) -> c::Answer {
         let message = &*exact(message);
         inputs::note_five(&mut self.counts, message);
-        inputs::note_tick(&mut self.counts, tick, pair.lib.clock);
+        inputs::note_tick(&mut self.counts, tick, pair.lib.header.clock);
         let form = self.form;
         let lib = |c: &mut c::Client, _: &mut [u8]| form.client_subscriber(c, message, tick);
         let peer = |c: &mut Client, _: &mut [u8]| {
@@ -118,7 +118,7 @@ impl Lockstep {
     }
 
     pub fn ask(&mut self, pair: &mut ClientPair, tick: u64) -> c::Answer {
-        inputs::note_tick(&mut self.counts, tick, pair.lib.clock);
+        inputs::note_tick(&mut self.counts, tick, pair.lib.header.clock);
         let form = self.form;
         let lib = |c: &mut c::Client, _: &mut [u8]| form.client_ask(c, tick);
         let peer = |c: &mut Client, _: &mut [u8]| client::ask(c, tick);
@@ -127,7 +127,7 @@ impl Lockstep {
 
     pub fn lookup(&mut self, pair: &mut ClientPair, key: &[u8]) -> c::Answer {
         let key = &*exact(key);
-        let length = self.choose_length(VALUE_CELL, |out| client::lookup(&pair.peer, key, out));
+        let length = self.choose_length(VALUE_MOST, |out| client::lookup(&pair.peer, key, out));
         let form = self.form;
         let lib = |c: &mut c::Client, out: &mut [u8]| form.client_lookup(c, key, out);
         let peer = |c: &mut Client, out: &mut [u8]| client::lookup(c, key, out);

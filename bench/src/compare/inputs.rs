@@ -1,8 +1,8 @@
 //! Finds the inputs at an edge among the arguments of a call.
 
-use crate::c;
+use crate::c::{self, Table};
 use crate::compare::counts::{Counts, Topic};
-use crate::compare::parts::Part;
+use crate::form::Part;
 use peer::frames::{frame_at, frame_length, message_length};
 use peer::names::{is_key, is_subtree};
 use peer::parts::{Built, OPEN, Step, VOID, WHOLE};
@@ -107,11 +107,11 @@ pub fn note_tick(counts: &mut Counts, tick: u64, last: u64) {
 }
 
 /// A state's number and rows.
-pub fn note_state(counts: &mut Counts, number: u64, rows: usize) {
+pub fn note_state(counts: &mut Counts, number: u64, rows: u64) {
     if number == peer::NUMBER_MAX {
         counts.input("number 2^63 - 1");
     }
-    if rows == MAX_ROWS {
+    if rows == MAX_ROWS as u64 {
         counts.input("64 rows");
     }
 }
@@ -124,6 +124,7 @@ pub fn note_written(counts: &mut Counts, written: u64) {
 
 /// A part that is added to a message.
 pub fn note_part(counts: &mut Counts, room: usize, built: Built, part: &Part) {
+    let any_numbers = counts.any_numbers;
     let mut met = |name| counts.met(Topic::Part, name);
     match room {
         0 => met("room of 0 bytes"),
@@ -134,6 +135,7 @@ pub fn note_part(counts: &mut Counts, room: usize, built: Built, part: &Part) {
         _ => {}
     }
     match (part.length, built.stage) {
+        (-1, _) if !any_numbers => met("part that was lost"),
         (-1, _) => met("part of length -1"),
         (i64::MIN, _) => met("part of length -2^63"),
         (_, OPEN) => {}
@@ -253,27 +255,29 @@ pub fn note_walk(counts: &mut Counts, bytes: &[u8], frames: &[c::Frame]) {
 }
 
 /// A row that is asked for.
-pub fn note_row(counts: &mut Counts, table: &c::Table, i: usize, well_formed: bool) {
+pub fn note_row(counts: &mut Counts, table: &impl Table, i: usize, well_formed: bool) {
+    let count = table.count() as usize;
     let mut met = |name| counts.met(Topic::Row, name);
-    if i == table.count {
+    if i == count {
         met("row at the count");
     }
     if i == usize::MAX {
         met("row 2^64 - 1");
     }
-    if i == MAX_ROWS && i < table.count {
+    if i == MAX_ROWS && i < count {
         met("row 64 of more");
     }
-    if i >= table.count.min(MAX_ROWS) {
+    if i >= count.min(MAX_ROWS) {
         return;
     }
-    if table.key_lengths[i] > KEY_ROOM as u64 {
+    let c::RowLengths { key, value } = table.lengths()[i];
+    if key > KEY_ROOM as u64 {
         met("row with a key of more than 96 bytes");
-    } else if table.value_lengths[i] > VALUE_ROOM as u64 {
+    } else if value > VALUE_ROOM as u64 {
         met("row with a value of more than 256 bytes");
     } else if !well_formed {
         met("row of an ill-formed state");
-    } else if i + 1 == table.count {
+    } else if i + 1 == count {
         met(if i == 63 { "row 63" } else { "the last row" });
     }
 }

@@ -1,10 +1,10 @@
-//! Makes each call twice, through the C interface and at the peer, and compares what comes back:
+//! Makes each call twice, at the library and at the peer, and compares what comes back:
 //! the answer, every byte of the output and the state.
 
 use crate::c::{self, Plain};
 use crate::compare::counts::{Counts, Entry};
 use crate::compare::{inputs, meaning};
-use crate::functions::Form;
+use crate::form::Form;
 use crate::random::Random;
 use peer::answer::{Answer, Kind};
 use peer::client::Client;
@@ -52,7 +52,7 @@ struct Lent {
 }
 
 pub struct Lockstep {
-    pub(super) form: &'static Form,
+    pub(super) form: &'static dyn Form,
     pub random: Random,
     pub counts: Counts,
     /// All calls; those that take a state and give an answer are counted again.
@@ -90,14 +90,14 @@ pub(super) fn hex(bytes: &[u8]) -> String {
 }
 
 impl Lockstep {
-    pub fn new(form: &'static Form, seed: u64) -> Lockstep {
+    pub fn new(form: &'static dyn Form, seed: u64) -> Lockstep {
         let mut random = Random::new(seed);
         let room = MOST_ROOM + GUARD;
         let noise = random.bytes(GUARD + room + SALTS);
         Lockstep {
             form,
             random,
-            counts: Counts::default(),
+            counts: Counts::new(form.takes_any_numbers()),
             calls: 0,
             calls_on_states: 0,
             differences: 0,
@@ -223,9 +223,9 @@ impl Lockstep {
         peer_call: impl FnOnce(Server, &mut [u8]) -> (Server, Answer),
         call: impl FnOnce() -> String,
     ) -> c::Answer {
-        inputs::note_state(&mut self.counts, pair.lib.number, pair.lib.table.count);
+        inputs::note_state(&mut self.counts, pair.lib.header.number, pair.lib.header.count);
         let lent = self.lend(length);
-        *self.server_before = *pair.lib;
+        self.server_before.bytes_mut().copy_from_slice(pair.lib.bytes());
         let lib = lib_call(&mut pair.lib, &mut self.lib_out[..length]);
         let (state, answer) = peer_call(*pair.peer, &mut self.peer_out[..length]);
         *pair.peer = state;
@@ -255,9 +255,9 @@ impl Lockstep {
         peer_call: impl FnOnce(&mut Client, &mut [u8]) -> Answer,
         call: impl FnOnce() -> String,
     ) -> c::Answer {
-        inputs::note_state(&mut self.counts, pair.lib.number, pair.lib.table.count);
+        inputs::note_state(&mut self.counts, pair.lib.header.number, pair.lib.header.count);
         let lent = self.lend(length);
-        *self.client_before = *pair.lib;
+        self.client_before.bytes_mut().copy_from_slice(pair.lib.bytes());
         let lib = lib_call(&mut pair.lib, &mut self.lib_out[..length]);
         let answer = peer_call(&mut pair.peer, &mut self.peer_out[..length]);
         let kept = || pair.lib.bytes() == self.client_before.bytes();

@@ -1,5 +1,4 @@
-//! Random calls through the C interface and at the peer in step, with everything that comes back
-//! compared.
+//! Random calls at the library and at the peer in step, with everything that comes back compared.
 
 mod building;
 mod bytes;
@@ -21,7 +20,7 @@ mod walking;
 mod ways;
 mod wire;
 
-use crate::functions::Form;
+use crate::form::Form;
 use crate::random::Random;
 use caller::Caller;
 use fields::Mix;
@@ -33,8 +32,8 @@ const SESSION_STEPS: usize = 600;
 
 /// Makes at least that many random calls on states, and others with them. With `all`, calls over all
 /// lengths and places come first, and everything that can come up must have come up.
-pub fn run(form: &'static Form, calls: u64, seed: u64, all: bool) -> bool {
-    println!("compare: {}, seed {seed}", form.name);
+pub fn run(form: &'static dyn Form, calls: u64, seed: u64, all: bool) -> bool {
+    println!("compare: {}, seed {seed}", form.name());
     let mix = Mix { removals: 10, ttls: 10 };
     let (run, random) = (Lockstep::new(form, !seed), Random::new(seed));
     let mut caller = Caller { run, random, pool: Vec::new(), mix, turns: [0; 4] };

@@ -4,32 +4,9 @@ use crate::c;
 use crate::compare::counts::Entry;
 use crate::compare::lockstep::{GUARD, Lockstep, exact, hex};
 use crate::compare::{inputs, wire};
-use crate::functions;
+use crate::form::{Before, Part, Walk};
 use peer::frames::{frame_at, message_length};
 use peer::parts::{self, Built, Step};
-
-/// A part as a socket delivers it: its bytes, or a negative length where none was received.
-#[derive(Clone)]
-pub struct Part {
-    pub bytes: Vec<u8>,
-    pub length: i64,
-    pub more: i32,
-}
-
-impl Part {
-    pub fn of(bytes: Vec<u8>, more: i32) -> Part {
-        let length = bytes.len() as i64;
-        Part { bytes, length, more }
-    }
-
-    pub fn not_received(length: i64, more: i32) -> Part {
-        Part { bytes: Vec::new(), length, more }
-    }
-
-    pub fn body(&self) -> Option<&[u8]> {
-        parts::received(&self.bytes, self.length)
-    }
-}
 
 /// The message that was sent, if the parts are one, however long: each part was received, and says
 /// rightly whether another follows.
@@ -44,6 +21,9 @@ pub fn sent(parts: &[Part]) -> Option<Vec<u8>> {
 pub struct Building {
     lib: Box<[u8]>,
     peer: Box<[u8]>,
+    /// What both buffers held at first, and the parts since then.
+    noise: Box<[u8]>,
+    parts: Vec<Part>,
     pub room: usize,
     /// The same on both sides, since each call is compared.
     pub built: Built,
@@ -82,9 +62,10 @@ fn frames_of_whole_messages(bytes: &[u8]) -> Vec<c::Frame> {
 impl Lockstep {
     pub fn message_in(&mut self, room: usize) -> Building {
         let noise = self.some_noise(room + 2 * GUARD);
-        let mut message = Building { lib: noise.clone(), peer: noise, room, built: Built::NOTHING };
+        let (lib, peer) = (noise.clone(), noise.clone());
+        let mut message = Building { lib, peer, noise, parts: Vec::new(), room, built: Built::NOTHING };
         let buffer = &mut message.lib[GUARD..GUARD + room];
-        let lib = functions::message_in(buffer);
+        let lib = self.form.message_in(buffer);
         let problem = message_problem(lib, buffer.as_ptr(), room, message.built)
             .or_else(|| (message.lib != message.peer).then(|| "bytes changed".to_string()));
         self.record_given(Entry::MessageIn, None, problem, || format!("room {room}"));
@@ -92,26 +73,28 @@ impl Lockstep {
     }
 
     pub fn add(&mut self, message: &mut Building, part: &Part) {
+        let part = if self.form.takes_any_numbers() { part.clone() } else { part.plain() };
         let (room, before) = (message.room, message.built);
-        inputs::note_part(&mut self.counts, room, before, part);
-        let bytes = &*exact(&part.bytes);
+        inputs::note_part(&mut self.counts, room, before, &part);
         let bytes_before = message.lib.clone();
         let buffer = &mut message.lib[GUARD..GUARD + room];
-        let lib = functions::message_add(buffer, (before.length, before.stage), bytes, part.length, part.more);
-        let body = parts::received(bytes, part.length);
-        let peer = parts::add(&mut message.peer[GUARD..GUARD + room], before, body, part.more != 0);
+        let Built { length, stage } = before;
+        let start = Before { length, stage, noise: &message.noise[GUARD..GUARD + room], parts: &message.parts };
+        let lib = self.form.message_add(buffer, &start, &part);
+        let peer = parts::add(&mut message.peer[GUARD..GUARD + room], before, part.body(), part.more != 0);
         let written = if peer.length == 0 { 0..0 } else { before.length as usize..peer.length as usize };
         let mut others = (0..room).filter(|at| !written.contains(at)).map(|at| GUARD + at);
         let changed = others.any(|at| message.lib[at] != bytes_before[at]);
         let problem = message_problem(lib, message.lib[GUARD..].as_ptr(), room, peer)
             .or_else(|| (message.lib != message.peer).then(|| format!("bytes {}", hex(&message.lib))))
             .or_else(|| changed.then(|| "bytes changed elsewhere than in the frame".to_string()));
-        let (length, more) = (part.length, part.more);
+        let Part { bytes, length, more } = &part;
         let call = || format!("room {room} {before:?} length {length} more {more} part {}", hex(bytes));
         if !self.record_given(Entry::AddPart, (peer.stage == parts::VOID).then_some(0), problem, call) {
             message.peer.copy_from_slice(&message.lib);
         }
         message.built = peer;
+        message.parts.push(part);
     }
 
     pub fn build(&mut self, room: usize, parts: &[Part]) -> Building {
@@ -120,11 +103,10 @@ impl Lockstep {
         message
     }
 
-    /// Sets the frame to the next one if there is one, on both sides.
-    pub fn next_frame(&mut self, bytes: &[u8], frame: &mut c::Frame) -> bool {
-        let bytes = &*exact(bytes);
+    /// Sets the frame to the next one if there is one, on both sides. The walk is the library's, over these bytes.
+    fn next_frame(&mut self, walk: &mut Walk, bytes: &[u8], frame: &mut c::Frame) -> bool {
         let last = *frame;
-        let said = functions::next_frame(bytes, frame);
+        let said = walk(frame);
         let step = Step { start: last.start, length: last.length, more: last.more };
         let next = parts::next_frame(bytes, step);
         inputs::note_step(&mut self.counts, bytes, step, next);
@@ -140,10 +122,12 @@ impl Lockstep {
     /// Walks over all frames. The walk ends in time and gives all frames of the whole messages, and no
     /// others.
     pub fn walk(&mut self, bytes: &[u8]) -> Vec<c::Frame> {
+        let bytes = &*exact(bytes);
+        let mut walk = self.form.walk(bytes);
         let mut frames = Vec::new();
         let mut frame = c::Frame { start: 0, length: 0, more: 0 };
         let mut calls = 1;
-        while self.next_frame(bytes, &mut frame) {
+        while self.next_frame(&mut walk, bytes, &mut frame) {
             frames.push(frame);
             calls += 1;
             if calls > bytes.len() / 2 + 1 {
@@ -156,6 +140,13 @@ impl Lockstep {
         }
         inputs::note_walk(&mut self.counts, bytes, &frames);
         frames
+    }
+
+    /// One step after any frame.
+    pub fn step(&mut self, bytes: &[u8], mut frame: c::Frame) {
+        let bytes = &*exact(bytes);
+        let mut walk = self.form.walk(bytes);
+        self.next_frame(&mut walk, bytes, &mut frame);
     }
 
     /// The parts that a host sends of these bytes, message by message.

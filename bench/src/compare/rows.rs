@@ -1,10 +1,9 @@
-//! The rows of a state, one by one, through the header and at the peer.
+//! The rows of a state, one by one, on both sides.
 
-use crate::c::{self, KEY_CELL, NEVER, VALUE_CELL};
+use crate::c::{self, NEVER, Table};
 use crate::compare::counts::Entry;
 use crate::compare::inputs;
 use crate::compare::lockstep::{ClientPair, Lockstep, ServerPair};
-use crate::functions;
 use peer::rows::Row;
 
 /// What a row is at the peer, with the number and the expiry that the header gives.
@@ -21,20 +20,26 @@ impl<'a> Expected<'a> {
     }
 }
 
-/// The cell of these bytes at a place, as far as the library's pointer is the cell's.
-fn part_of(cells: &[u8], cell: usize, i: usize, start: *const u8, length: usize) -> Option<&[u8]> {
-    let cell = cells.get(cell * i..cell * (i + 1))?;
+/// The bytes that the library gave, if its pointer is that of the cell, and the cell has as many.
+fn part_of(cell: &[u8], start: *const u8, length: usize) -> Option<&[u8]> {
     if start == cell.as_ptr() { cell.get(..length) } else { None }
 }
 
 /// Compares what the library said with the peer's row. Without a row it says 0 and leaves all as it was.
-fn problem(table: &c::Table, i: usize, lib: (i32, c::Row), before: c::Row, peer: &Option<Expected>) -> Option<String> {
+fn problem(
+    table: &impl Table,
+    i: usize,
+    lib: (i32, c::Row),
+    before: c::Row,
+    peer: &Option<Expected>,
+) -> Option<String> {
     let (said, row) = lib;
     let same = match peer {
         None => said == 0 && row == before,
         Some(expected) => {
-            let key = part_of(&table.keys, KEY_CELL, i, row.key, row.key_length);
-            let value = part_of(&table.values, VALUE_CELL, i, row.value, row.value_length);
+            let cell = &table.cells()[i];
+            let key = part_of(&cell.key, row.key, row.key_length);
+            let value = part_of(&cell.value, row.value, row.value_length);
             let numbers = (row.number, row.expiry) == (expected.number, expected.expiry);
             said == 1 && key == Some(expected.key) && value == Some(expected.value) && numbers
         }
@@ -53,23 +58,23 @@ impl Lockstep {
     }
 
     pub fn server_row(&mut self, pair: &ServerPair, i: usize) {
-        inputs::note_row(&mut self.counts, &pair.lib.table, i, pair.peer.is_well_formed());
+        inputs::note_row(&mut self.counts, &*pair.lib, i, pair.peer.is_well_formed());
         let before = self.noisy_row();
         let mut row = before;
-        let said = functions::server_row(&pair.lib, i, &mut row);
+        let said = self.form.server_row(&pair.lib, i, &mut row);
         let found = pair.peer.table.row(i);
         let peer = found.map(|row| Expected::of(row, row.extra.number, row.extra.expiry.unwrap_or(NEVER)));
-        let problem = problem(&pair.lib.table, i, (said, row), before, &peer);
+        let problem = problem(&*pair.lib, i, (said, row), before, &peer);
         self.record_given(Entry::ServerRow, peer.is_none().then_some(0), problem, || format!("row {i}"));
     }
 
     pub fn client_row(&mut self, pair: &ClientPair, i: usize) {
-        inputs::note_row(&mut self.counts, &pair.lib.table, i, pair.peer.is_well_formed());
+        inputs::note_row(&mut self.counts, &*pair.lib, i, pair.peer.is_well_formed());
         let before = self.noisy_row();
         let mut row = before;
-        let said = functions::client_row(&pair.lib, i, &mut row);
+        let said = self.form.client_row(&pair.lib, i, &mut row);
         let peer = pair.peer.table.row(i).map(|row| Expected::of(row, 0, NEVER));
-        let problem = problem(&pair.lib.table, i, (said, row), before, &peer);
+        let problem = problem(&*pair.lib, i, (said, row), before, &peer);
         self.record_given(Entry::ClientRow, peer.is_none().then_some(0), problem, || format!("row {i}"));
     }
 
@@ -81,13 +86,13 @@ impl Lockstep {
     }
 
     pub fn server_rows(&mut self, pair: &ServerPair) {
-        for i in self.places(pair.lib.table.count) {
+        for i in self.places(pair.lib.header.count as usize) {
             self.server_row(pair, i);
         }
     }
 
     pub fn client_rows(&mut self, pair: &ClientPair) {
-        for i in self.places(pair.lib.table.count) {
+        for i in self.places(pair.lib.header.count as usize) {
             self.client_row(pair, i);
         }
     }

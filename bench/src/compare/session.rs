@@ -5,8 +5,8 @@ use crate::compare::caller::Caller;
 use crate::compare::counts::Topic;
 use crate::compare::fields::Mix;
 use crate::compare::lockstep::{ClientPair, ServerPair};
-use crate::compare::parts::Part;
 use crate::compare::{meaning, names, plant, wire};
+use crate::form::Part;
 use peer::TICK_MAX;
 use peer::client::Phase;
 use peer::parts::{ICANHAZ_ROOM, KVSET_ROOM, SNAPSHOT_ROOM, SUBSCRIBER_ROOM};
@@ -38,7 +38,7 @@ impl<'a> Session<'a> {
         let size = caller.random.pick(&[8, 40, 90]);
         caller.pool = names::different_keys(&mut caller.random, size, b"");
         let server = start_server(caller);
-        let tick = server.lib.last_tick;
+        let tick = server.lib.header.last_tick;
         let mut session = Session { caller, server, desks: Vec::new(), published: Vec::new(), tick, clean };
         for _ in 0..3 {
             let pair = session.start_client();
@@ -230,14 +230,14 @@ impl<'a> Session<'a> {
     /// Noise where bytes mean nothing, on the library's side alone.
     fn scramble(&mut self, desk: usize) {
         let random = &mut self.caller.random;
-        plant::scramble(random, &mut self.server.lib.table);
-        let rows = self.server.lib.table.count;
-        for i in rows..c::ROWS {
-            (self.server.lib.numbers[i], self.server.lib.expiries[i]) = (random.next(), random.next());
+        let server = &mut self.server.lib;
+        plant::scramble(random, &mut **server);
+        for stamps in &mut server.stamps[server.header.count as usize..] {
+            *stamps = c::RowStamps { number: random.next(), expiry: random.next() };
         }
         let client = &mut self.desks[desk].pair.lib;
-        plant::scramble(random, &mut client.table);
-        let length = client.subtree_length as usize;
+        plant::scramble(random, &mut **client);
+        let length = client.header.subtree_length as usize;
         random.fill(&mut client.subtree[length..]);
     }
 
@@ -264,7 +264,7 @@ impl<'a> Session<'a> {
         let random = &mut self.caller.random;
         let rows = random.pick(&[62, 63, 64, 64, 64]);
         let mut pair = ServerPair::of(plant::server(random, rows));
-        let mut tick = pair.lib.last_tick;
+        let mut tick = pair.lib.header.last_tick;
         for _ in 0..4 {
             tick = (tick + self.caller.random.pick(&[0, 1, 1000, 3000])).min(TICK_MAX);
             self.caller.good_kvset(&mut pair, tick);

@@ -1,6 +1,6 @@
 //! Calls at every entry on states that are ill-formed in one way, or odd and well-formed.
 
-use crate::c::{self, Plain};
+use crate::c::{self, Plain, Table};
 use crate::compare::caller::Caller;
 use crate::compare::counts::{Entry, Sort};
 use crate::compare::lockstep::{ClientPair, ServerPair};
@@ -38,7 +38,7 @@ impl Caller {
         let mut lib = plant::server(&mut self.random, rows);
         let at = self.turn(0, TABLE_WAYS.len() + SERVER_WAYS.len());
         let name = if let Some(way) = TABLE_WAYS.get(at) {
-            (way.apply)(&mut self.random, &mut lib.table);
+            (way.apply)(&mut self.random, &mut *lib);
             way.name
         } else {
             let way = &SERVER_WAYS[at - TABLE_WAYS.len()];
@@ -54,7 +54,7 @@ impl Caller {
         let mut lib = plant::client(&mut self.random, rows, b"");
         let at = self.turn(1, TABLE_WAYS.len() + CLIENT_WAYS.len());
         let name = if let Some(way) = TABLE_WAYS.get(at) {
-            (way.apply)(&mut self.random, &mut lib.table);
+            (way.apply)(&mut self.random, &mut *lib);
             way.name
         } else {
             let way = &CLIENT_WAYS[at - TABLE_WAYS.len()];
@@ -95,7 +95,7 @@ impl Caller {
     }
 
     fn call_server(&mut self, pair: &mut ServerPair, name: &str, ill_formed: bool) {
-        let tick = pair.lib.last_tick.saturating_add(self.random.pick(&[0, 1, 2000])).min(TICK_MAX);
+        let tick = pair.lib.header.last_tick.saturating_add(self.random.pick(&[0, 1, 2000])).min(TICK_MAX);
         let good = self.random.percent(50);
         let answer = if good { self.good_kvset(pair, tick) } else { self.bad_kvset(pair, tick) };
         self.judged(Entry::Kvset, answer, name, ill_formed);
@@ -107,7 +107,7 @@ impl Caller {
     }
 
     fn call_client(&mut self, pair: &mut ClientPair, name: &str, ill_formed: bool) {
-        let tick = pair.lib.clock.saturating_add(self.random.pick(&[0, 1, 6000])).min(TICK_MAX);
+        let tick = pair.lib.header.clock.saturating_add(self.random.pick(&[0, 1, 6000])).min(TICK_MAX);
         let answer = self.forged_snapshot(pair);
         self.judged(Entry::Snapshot, answer, name, ill_formed);
         let answer = self.forged_publication(pair, tick);
@@ -130,12 +130,11 @@ impl Caller {
         let (mut s, mut c) = (c::Server::zeroed(), c::Client::zeroed());
         random.fill(s.bytes_mut());
         random.fill(c.bytes_mut());
-        for table in [&mut s.table, &mut c.table] {
-            table.count = random.pick(&[table.count, 1, 63, 64, 65, 66, usize::MAX]);
-            for i in 0..c::ROWS {
-                let key = random.pick(&[table.key_lengths[i], 0, 1, 95, 96, 97, 1 << 32, 1 << 63 | 5]);
-                let value = random.pick(&[table.value_lengths[i], 0, 1, 255, 256, 257, 1 << 32, 1 << 63 | 5]);
-                (table.key_lengths[i], table.value_lengths[i]) = (key, value);
+        for table in [&mut *s as &mut dyn Table, &mut *c] {
+            table.set_count(random.pick(&[table.count(), 1, 63, 64, 65, 66, u64::MAX]));
+            for lengths in table.lengths_mut() {
+                lengths.key = random.pick(&[lengths.key, 0, 1, 95, 96, 97, 1 << 32, 1 << 63 | 5]);
+                lengths.value = random.pick(&[lengths.value, 0, 1, 255, 256, 257, 1 << 32, 1 << 63 | 5]);
             }
         }
         self.run.server_rows(&ServerPair::of(s));

@@ -49,7 +49,7 @@ impl Caller {
         let server = ServerPair::of(plant::server(random, 1));
         let started = ClientPair::of(plant::client(random, 0, b""));
         let mut live = plant::client(random, 20, b"");
-        (live.phase, live.number) = (1, 0);
+        (live.header.phase, live.header.number) = (1, 0);
         Listeners { server, started, live: ClientPair::of(live) }
     }
 
@@ -57,7 +57,7 @@ impl Caller {
     /// a subtree, and in a state. Also asks whether it is one.
     fn key_everywhere(&mut self, listeners: &mut Listeners, key: &[u8]) {
         let removal = wire::encode(&[key, &[0; 8], b"", b"", b""]);
-        let tick = listeners.server.lib.last_tick;
+        let tick = listeners.server.lib.header.last_tick;
         self.run.kvset(&mut listeners.server, &removal, tick);
         self.run.lookup(&mut listeners.live, key);
         let subtree = [key, b"/"].concat();
@@ -65,10 +65,10 @@ impl Caller {
         self.run.is_subtree(key);
         self.run.is_subtree(&subtree);
         self.run.client_start(&mut listeners.started, &subtree, 0);
-        if key.len() <= c::KEY_CELL {
+        if key.len() <= c::KEY_MOST {
             self.rows_in_states(&[key]);
         }
-        if subtree.len() <= c::KEY_CELL {
+        if subtree.len() <= c::KEY_MOST {
             self.ask_client(&[], &subtree);
         }
     }
@@ -77,9 +77,9 @@ impl Caller {
     fn rows_in_states(&mut self, keys: &[&[u8]]) {
         let mut s = plant::server(&mut self.random, keys.len());
         for (i, key) in keys.iter().enumerate() {
-            plant::put_key(&mut s.table, i, key);
+            plant::put_key(&mut *s, i, key);
         }
-        let tick = s.last_tick;
+        let tick = s.header.last_tick;
         self.run.tick(&mut ServerPair::of(s), tick);
         self.ask_client(keys, b"");
     }
@@ -88,19 +88,18 @@ impl Caller {
     fn ask_client(&mut self, keys: &[&[u8]], subtree: &[u8]) {
         let mut client = plant::client(&mut self.random, keys.len(), b"");
         for (i, key) in keys.iter().enumerate() {
-            plant::put_key(&mut client.table, i, key);
+            plant::put_key(&mut *client, i, key);
         }
-        client.subtree[..subtree.len()].copy_from_slice(subtree);
-        client.subtree_length = subtree.len() as u64;
-        let clock = client.clock;
+        plant::put_subtree(&mut client, subtree);
+        let clock = client.header.clock;
         self.run.ask(&mut ClientPair::of(client), clock);
     }
 
     /// Two rows whose keys differ from each place on, and two of which one is the other's beginning,
     /// rising and falling.
     fn sweep_order(&mut self) {
-        for at in 1..c::KEY_CELL {
-            for length in [at + 1, (at + 9).min(c::KEY_CELL), c::KEY_CELL] {
+        for at in 1..c::KEY_MOST {
+            for length in [at + 1, (at + 9).min(c::KEY_MOST), c::KEY_MOST] {
                 let (short, long) = (plain_key(at + 1), plain_key(length));
                 for (low, high) in [(1, 255), (b'j', b'k'), (b'k', b'l'), (127, 128)] {
                     let (low, high) = (with_byte(&short, at, low), with_byte(&long, at, high));
@@ -120,15 +119,15 @@ impl Caller {
 
     /// Subtrees of each length, and a key that leaves them at each place.
     fn sweep_under(&mut self) {
-        for length in 3..c::KEY_CELL {
+        for length in 3..c::KEY_MOST {
             let mut subtree = plain_key(length);
             subtree[length - 1] = b'/';
             let under = [&subtree[..], b"x"].concat();
             let mut waiting = plant::client(&mut self.random, 0, &subtree);
-            (waiting.phase, waiting.number) = (0, 0);
-            let mut live = *waiting;
-            live.phase = 1;
-            let (mut waiting, mut live) = (ClientPair::of(waiting), ClientPair::of(Box::new(live)));
+            (waiting.header.phase, waiting.header.number) = (0, 0);
+            let mut live = waiting.clone();
+            live.header.phase = 1;
+            let (mut waiting, mut live) = (ClientPair::of(waiting), ClientPair::of(live));
             for at in 1..=length {
                 let key = with_byte(&under, at, b'j');
                 self.run.is_under(&subtree, &key);

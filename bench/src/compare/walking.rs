@@ -22,8 +22,8 @@ impl Caller {
                 self.run.report(Entry::NextFrame, "a walk gave other bodies than were written", &hex(&bytes));
             }
             self.run.message_length(&bytes);
-            for _ in 0..6 {
-                self.step_from_anywhere(&bytes, &frames);
+            if self.run.form.takes_any_numbers() {
+                (0..6).for_each(|_| self.step_from_anywhere(&bytes, &frames));
             }
         }
     }
@@ -103,6 +103,6 @@ impl Caller {
             frame.length = place.wrapping_sub(frame.start);
         }
         frame.more = random.pick(&[0, 0, 1, 1, 2, 256, 1 << 32, u64::MAX]);
-        self.run.next_frame(bytes, &mut frame);
+        self.run.step(bytes, frame);
     }
 }
