@@ -73,7 +73,7 @@ pub record Fit (r : Bytes × Held) : Type 0 where
 
 pub record Sound (b : Book) : Type 0 where
   pub sorted : Sorted (b .rows)
-  pub count : length (b .rows) ≤ 64
+  pub count : length (b .rows) ≤ maxRows
   pub number : b .number ≤ maxSequence
   pub fit : All Fit (b .rows)
 
@@ -124,7 +124,7 @@ module _ (b : Book) (msg : Bytes) (t room : ℕ) where
         held : Option ℕ → Held
         held expiry = record { value = frameAt 4 msg; expiry = expiry }
 
-        few : (y : Bool) → hasKey key (b .rows) ≡ y → (not y && leb maxRows (length (b .rows))) ≡ false → cond y (length (b .rows)) (suc (length (b .rows))) ≤ 64
+        few : (y : Bool) → hasKey key (b .rows) ≡ y → (not y && leb maxRows (length (b .rows))) ≡ false → cond y (length (b .rows)) (suc (length (b .rows))) ≤ maxRows
         few true f g = s .count
         few false f g = leb-false maxRows (length (b .rows)) g
 

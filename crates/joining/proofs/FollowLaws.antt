@@ -103,7 +103,7 @@ module _ (p : ServerStart) (S : Log ServerCall) where
         sorted : Sorted (v .rows)
         sorted = subst Sorted (sym e) (sorted-keep test (mapAt p S (v .number)) (map-sorted p S (v .number)))
 
-        few : length (keep test (mapAt p S (suc n))) ≤ 64
+        few : length (keep test (mapAt p S (suc n))) ≤ maxRows
         few = omega (arith, length-keep test (mapAt p S (suc n)), map-count p S (suc n))
 
         go : (b d : Bool) → hasKey (f .head) (v .rows) ≡ d → cond b (removeRow (f .head) (v .rows)) (setRow (f .head) (f .value) (v .rows)) ≡ keep test (mapAt p S (suc n))

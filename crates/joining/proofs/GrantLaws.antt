@@ -20,6 +20,7 @@ use Rattle.frame_forms.specs.Lengths.{isIdentity}
 use Rattle.ports.specs.Ports.{icanhazPort}
 use Rattle.round_trip.proofs.RoundTripProof.{requested}
 use Rattle.round_trip.proofs.RowsLaws.{Proper}
+use Rattle.row_cells.specs.Sizes.{maxRows}
 use Rattle.rows.proofs.RowLaws.{length-keep, map-length, map-map}
 use Rattle.rows.specs.Rows.{Rows, keep, mapRows}
 use Rattle.server_calls.specs.Calls.Call.{icanhaz}
@@ -40,7 +41,7 @@ kept [] h = tt
 kept (r ∷ l) h = ((h .0 .0, h .0 .1 .1), kept l (h .1))
 
 module _ (v : Ledger Entry) (s : Sound (ledgerOf v)) where
-  pub count : length (v .rows) ≤ 64
+  pub count : length (v .rows) ≤ maxRows
   unfolding ledgerOf
   count = omega (arith, map-length plain (v .rows), s .count)
 
@@ -48,7 +49,7 @@ module _ (v : Ledger Entry) (s : Sound (ledgerOf v)) where
     enough : snapshotLength (length identity) subtree (mapRows heldLength (ledgerOf v .rows)) ≤ 40953
     unfolding ledgerOf
     enough =
-        let few : length (keep (under subtree) (v .rows)) ≤ 64 = omega (arith, length-keep (under subtree) (v .rows), count) in
+        let few : length (keep (under subtree) (v .rows)) ≤ maxRows = omega (arith, length-keep (under subtree) (v .rows), count) in
         let short = leb-true (length identity) 255 (and-right (leb 1 (length identity)) (leb (length identity) 255) i) in
         let most = snapshot-most (v .number) identity subtree (v .rows) short u (kept (v .rows) (sound-rows v s)) few in
         omega (arith, most, snapshot-length identity subtree (v .number) (v .rows), ap (snapshotLength (length identity) subtree) (held-lengths (v .rows)))

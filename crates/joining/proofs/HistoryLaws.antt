@@ -13,6 +13,7 @@ use Rattle.base.specs.Bytes.{Bytes}
 use Rattle.client_calls.specs.Next.{rowsAfter}
 use Rattle.messages.specs.Fields.{Fields, bytesOf, hugz}
 use Rattle.numbers.specs.Sequences.{maxSequence}
+use Rattle.row_cells.specs.Sizes.{maxRows}
 use Rattle.rows.proofs.RowLaws.{map-length, sorted-map}
 use Rattle.rows.specs.Rows.{Rows, Sorted}
 use Rattle.server_calls.specs.Calls.{Call}
@@ -83,7 +84,7 @@ one-map p S D = map-kept p S D (latest p S) (omega arith) ∙ map-now p S
 
 -- in key order, and of at most as many rows as there is room for
 abbrev Tidy : Rows Bytes → Type 0
-Tidy l = Sorted l × (length l ≤ 64)
+Tidy l = Sorted l × (length l ≤ maxRows)
 
 book-tidy : (p : ServerStart) (S : Log Call) → Tidy (mapOf (bookAfter p S))
 unfolding mapOf
@@ -103,7 +104,7 @@ map-tidy p (S ▷ x) n = go (leb n (bookAfter p S .number)) (map-tidy p S n)
 pub map-sorted : (p : ServerStart) (S : Log Call) (n : ℕ) → Sorted (mapAt p S n)
 map-sorted p S n = map-tidy p S n .0
 
-pub map-count : (p : ServerStart) (S : Log Call) (n : ℕ) → length (mapAt p S n) ≤ 64
+pub map-count : (p : ServerStart) (S : Log Call) (n : ℕ) → length (mapAt p S n) ≤ maxRows
 map-count p S n = map-tidy p S n .1
 
 -- ---- the step from n to the next number, and the update that makes it

@@ -90,7 +90,7 @@ abbrev pub Waits : Replica → Bytes → ℕ → Type 0
 Waits v subtree n = (v .live ≡ false) × ((v .subtree ≡ subtree) × (length (v .rows) ≤ n))
 
 module _ (subtree : Bytes) (q : ClientStart) (begins : Waits (clientStart q) subtree 0) where
-  rows-accepted : (rs : Log (Bytes × Entry)) → AllOf (Sent subtree) rs → size rs ≤ 64
+  rows-accepted : (rs : Log (Bytes × Entry)) → AllOf (Sent subtree) rs → size rs ≤ maxRows
       → (accepted q (handedIn (mapLog syncOf rs)) ≡ mapLog syncOf rs) × Waits (clientAfter q (handedIn (mapLog syncOf rs))) subtree (size rs)
   unfolding accepted clientAfter handedIn size effectNext
   rows-accepted empty h k = (refl, begins)
@@ -114,7 +114,7 @@ module _ (subtree : Bytes) (q : ClientStart) (begins : Waits (clientStart q) sub
           )
 
 module _ (v : Ledger Entry) (s : Sound (ledgerOf v)) (subtree : Bytes) (u : isSubtree subtree ≡ true) where
-  few : size (sentRows v subtree) ≤ 64
+  few : size (sentRows v subtree) ≤ maxRows
   unfolding size
   few = omega (arith, size-onto empty (keep (under subtree) (v .rows)), length-keep (under subtree) (v .rows), count v s)
 

@@ -1,5 +1,7 @@
 -- The sizes of the arrays that hold rows.
-use Prim.Native.Nat.{ℕ, _*_}
+use Prim.Native.Nat.{ℕ, _+_, _*_}
+use Rattle.frame_forms.specs.Lengths.{valueRoom}
+use Rattle.keys.specs.Keys.{keyRoom}
 
 -- how many rows there is room for
 abbrev pub maxRows : ℕ
@@ -7,7 +9,7 @@ maxRows = 64
 
 -- the bytes of a row: room for a key, and for a value behind it
 abbrev pub cellSize : ℕ
-cellSize = 352
+cellSize = keyRoom + valueRoom
 
 -- the lengths of a row: that of its key, and that of its value
 abbrev pub lengthCount : ℕ

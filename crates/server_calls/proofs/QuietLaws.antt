@@ -143,35 +143,35 @@ module _ (t room : ℕ) (late : t ≤ maxTick) (enough : 114 ≤ room) where
           expires v h b e key
           (ih (without t v (b .0)) (sorted-remove (b .0) (v .rows) s) (every-remove isKey (b .0) (v .rows) k) (omega arith) (omega arith) (λ z. omega arith))
 
-  quiet-by : (v : Ledger Entry) → Sorted (v .rows) → length (v .rows) ≤ 64 → every isKey (keysIn (v .rows)) ≡ true → v .lastTick ≤ t
+  quiet-by : (v : Ledger Entry) → Sorted (v .rows) → length (v .rows) ≤ maxRows → every isKey (keysIn (v .rows)) ≡ true → v .lastTick ≤ t
       → QuietBy maxRows t room v
   quiet-by v s l k h = go (leastDue t (heldIn v)) refl (leb 1000 (t - v .lastPublished)) refl
     where
-      few : dueCount t (heldIn v) ≤ 64
+      few : dueCount t (heldIn v) ≤ maxRows
       few = omega (arith, count-length t (heldIn v), map-length plain (v .rows))
 
       go : (x : Option (Bytes × ℕ)) → leastDue t (heldIn v) ≡ x → (y : Bool) → leb 1000 (t - v .lastPublished) ≡ y → QuietBy maxRows t room v
       go (some b) e y f = drain maxRows v s k h few (λ z. absurd (omega (arith, count-some t (heldIn v) b e)))
       go none e true f =
           let c = count-none t (heldIn v) e in
-          beats v h e (leb-true 1000 (t - v .lastPublished) f) (drain 63 (alive t v) s k (omega arith) (omega arith) (λ z. omega arith))
+          beats v h e (leb-true 1000 (t - v .lastPublished) f) (drain (maxRows - 1) (alive t v) s k (omega arith) (omega arith) (λ z. omega arith))
       go none e false f = rests v h maxRows e (leb-false 1000 (t - v .lastPublished) f)
 
--- ---- the 65th call
-pub quiet-after-all : (v : Ledger Entry) (t room : ℕ) → Sorted (v .rows) → length (v .rows) ≤ 64 → every isKey (keysIn (v .rows)) ≡ true
+-- ---- the call after as many as there may be rows
+pub quiet-after-all : (v : Ledger Entry) (t room : ℕ) → Sorted (v .rows) → length (v .rows) ≤ maxRows → every isKey (keysIn (v .rows)) ≡ true
     → v .lastTick ≤ t → t ≤ maxTick → 114 ≤ room → QuietBy maxRows t room v
 quiet-after-all v t room s l k h late enough = quiet-by t room late enough v s l k h
 
 -- ---- the same from a well-formed state
 module _ (s : Server) (w : WellFormed s) where
-  few-rows : s .header .count ≤ 64
+  few-rows : s .header .count ≤ maxRows
   few-rows = good-server s w .rows .few
 
   keys-held : keysIn (view s .rows) ≡ keyList s
   unfolding view
   keys-held = keys-in-rows (keyList s) (entryList s) (as-many s)
 
-  rows-few : length (view s .rows) ≤ 64
+  rows-few : length (view s .rows) ≤ maxRows
   unfolding view
   rows-few = omega (arith, few-rows, row-count s)
 

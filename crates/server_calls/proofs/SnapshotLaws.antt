@@ -23,6 +23,7 @@ use Rattle.messages.proofs.WriteLaws.{bytes-length}
 use Rattle.messages.specs.Fields.{bytesOf, kvsync, kthxbai, identityFrame, messageLength}
 use Rattle.keys.proofs.UnderLaws.{key-short, subtree-short, key-longer}
 use Rattle.keys.specs.Keys.{isKey, isSubtree, under}
+use Rattle.row_cells.specs.Sizes.{maxRows}
 use Rattle.rows.specs.Rows.{Rows, keep, mapRows}
 use Rattle.server_calls.specs.Snapshots.{sync, thanks, syncs, snapshotBytes, sum, syncLength, snapshotLength}
 use Rattle.server_state.specs.Views.{Entry}
@@ -252,7 +253,7 @@ kept-under subtree s (r ∷ l) k h = go (under subtree (r .0)) refl h (kept-unde
     go false u g ih = ih g
 
 pub snapshot-most : (number : ℕ) (identity subtree : Bytes) (rows : Rows Entry) → length identity ≤ 255 → isSubtree subtree ≡ true → All Kept rows
-    → length (keep (under subtree) rows) ≤ 64 → length (snapshotBytes number identity subtree rows) ≤ 40953
+    → length (keep (under subtree) rows) ≤ maxRows → length (snapshotBytes number identity subtree rows) ≤ 40953
 snapshot-most number identity subtree rows i s k h = go (ltb 0 (length (keep (under subtree) rows))) refl
   where
     bound : length (snapshotBytes number identity subtree rows) ≤ 634 * length (keep (under subtree) rows) + 282 + length subtree

@@ -17,6 +17,7 @@ ghost use lib.ListN.{length};
 ghost use Rattle.answers.specs.Refusals.{verdict};
 ghost use Rattle.base.specs.Checks.{firstOf};
 ghost use Rattle.framing.specs.Splits.{bodyIn};
+ghost use Rattle.keys.specs.Keys.{keyRoom};
 ghost use Rattle.row_cells.specs.Faults.{GoodRows};
 ghost use Rattle.server_calls.specs.Refusals.{roomChecks};
 ghost use Rattle.server_snapshot.specs.Requests.{lengthRows, requestChecks};
@@ -32,7 +33,7 @@ fn check_room<'a>(
     room: usize,
 ) -> Verdict
     requires { ⌜ GoodRows count (now bytes) (now lengths)
-        × ((length (bodyIn (now msg) places 0) ≤ 255) × (length (bodyIn (now msg) places 2) ≤ 96)) ⌝ }
+        × ((length (bodyIn (now msg) places 0) ≤ 255) × (length (bodyIn (now msg) places 2) ≤ keyRoom)) ⌝ }
     ensures { λ r. ⌜ r ≡ verdict (firstOf (roomChecks
         (lengthRows count (now (bytes .entry)) (now (lengths .entry)))
         (bodyIn (now (msg .entry)) places 0) (bodyIn (now (msg .entry)) places 2) room)) ⌝ }
