@@ -1,6 +1,8 @@
 // The client's entries on a state by value: those that may change it give back the state after the call, with the
 // answer, the others the answer alone. The work is done by the entries on lent arrays; callers in Rattle that keep a
 // state by value call these.
+#![tactic(auto)]
+
 ghost use Rattle.std.specs.Prelude.{[], length};
 ghost use Rattle.client_calls.specs.Calls.{snapshot as synced, subscriber as heard, ask as asked, lookup as wanted};
 ghost use Rattle.client_calls.specs.Calls.{write_icanhaz, write_kvset};

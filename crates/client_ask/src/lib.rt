@@ -1,4 +1,6 @@
 // Asking whether the server is gone.
+#![tactic(auto)]
+
 ghost use Rattle.std.specs.Prelude.{[]};
 ghost use Rattle.client_calls.specs.Calls.{ask as asked};
 ghost use Rattle.client_calls.specs.Promises.{Answered};

@@ -1,4 +1,6 @@
 // What a message does to a client: it is planned by functions that only read, and then carried out.
+#![tactic(auto)]
+
 ghost use Rattle.std.specs.Prelude.{◌≡◌};
 ghost use Rattle.client_effects.specs.Carried.{Storable, CarriedOut};
 ghost use Rattle.client_effects.specs.Plans.{row_plan};

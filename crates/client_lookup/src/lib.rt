@@ -1,4 +1,6 @@
 // Lookup: the value of a key, copied to the output.
+#![tactic(auto)]
+
 ghost use Rattle.std.specs.Prelude.{◌≡◌, length};
 ghost use Rattle.base.specs.Checks.{first_of};
 ghost use Rattle.client_calls.specs.Calls.{lookup as wanted};

@@ -1,4 +1,6 @@
 // The snapshot entry of a client: KTHXBAI, or else KVSYNC.
+#![tactic(auto)]
+
 ghost use Rattle.std.specs.Prelude.{[]};
 ghost use Rattle.client_calls.specs.Calls.{snapshot as handed};
 ghost use Rattle.client_calls.specs.Promises.{Answered};

@@ -1,4 +1,6 @@
 // The start of a client: its arrays are filled where they lie, and unused bytes are zero.
+#![tactic(auto)]
+
 ghost use Rattle.std.specs.Prelude.{◌≡◌, replicate};
 ghost use Rattle.answers.specs.Refusals.{verdict};
 ghost use Rattle.base.specs.Checks.{first_of};

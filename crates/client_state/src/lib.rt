@@ -1,4 +1,6 @@
 // The state of a client: the rows under its subtree, the subtree, and a header.
+#![tactic(auto)]
+
 use keys::KEY_ROOM;
 use numbers::sequence::Sequence;
 use numbers::tick::Tick;

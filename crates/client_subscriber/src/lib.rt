@@ -1,4 +1,6 @@
 // The subscriber entry of a client: HUGZ, or else KVPUB.
+#![tactic(auto)]
+
 ghost use Rattle.std.specs.Prelude.{[]};
 ghost use Rattle.client_calls.specs.Calls.{subscriber as handed};
 ghost use Rattle.client_calls.specs.Promises.{Answered};

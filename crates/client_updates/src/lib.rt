@@ -1,4 +1,6 @@
 // What HUGZ and KVPUB come to at a client, once their frames are read. These functions only read.
+#![tactic(auto)]
+
 ghost use Rattle.std.specs.Prelude.{[], ◌≡◌};
 ghost use Rattle.base.specs.Checks.{first_of};
 ghost use Rattle.client_calls.specs.Effects.{hear, update_by};

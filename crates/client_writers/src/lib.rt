@@ -1,4 +1,6 @@
 // The messages that a client writes: ICANHAZ while it waits, and KVSET at any time.
+#![tactic(auto)]
+
 ghost use Rattle.std.specs.Prelude.{length};
 ghost use Rattle.client_calls.specs.Calls.{write_icanhaz, write_kvset};
 ghost use Rattle.client_calls.specs.Promises.{Answered};

@@ -1,2 +1,4 @@
 // Writing frames into lent output.
+#![tactic(auto)]
+
 pub mod frame;

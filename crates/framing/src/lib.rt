@@ -1,4 +1,6 @@
 // The framing of a message, judged in one walk by the reader, and where the bodies of its first frames lie.
+#![tactic(auto)]
+
 ghost use Rattle.std.specs.Prelude.{◌≡◌};
 ghost use Rattle.frames.specs.Runs.{message_in};
 ghost use Rattle.framing.specs.Splits.{noted, body_in, IsSplit};

@@ -1,4 +1,6 @@
 // Headers and answers as arrays of words, which a host of any language can lend.
+#![tactic(auto)]
+
 pub mod answer;
 pub mod client;
 pub mod server;

@@ -1,4 +1,6 @@
 // The order of keys: by bytes, a proper prefix first.
+#![tactic(auto)]
+
 ghost use Rattle.std.specs.Prelude.{true, ◌≡◌, ◌+◌, ◌≤◌, length, drop};
 ghost use Rattle.key_order.specs.Order.{order_of};
 

@@ -1,4 +1,6 @@
 // Keys and subtrees.
+#![tactic(auto)]
+
 ghost use Rattle.std.specs.Prelude.{◌≡◌};
 ghost use Rattle.keys.specs.Keys.{is_key, is_subtree, under};
 

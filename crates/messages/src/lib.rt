@@ -1,4 +1,6 @@
 // The messages of the protocol, as fields: their writers, and the identity frame in front of them.
+#![tactic(auto)]
+
 pub mod identity;
 pub mod write;
 

@@ -1,5 +1,7 @@
 // What the ports of both ends share: the framing of a message, what an update may hold, the tick of a call; and the two
 // value entries.
+#![tactic(auto)]
+
 pub mod frame_count;
 pub mod time;
 pub mod update;

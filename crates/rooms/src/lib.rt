@@ -1,5 +1,6 @@
 // How much room a message needs that is built for a port: with it the port takes the message exactly if it takes the
 // parts.
+#![tactic(auto)]
 
 // A KVSET at a server, and what is published at a client.
 pub const UPDATE_ROOM: usize = 521;

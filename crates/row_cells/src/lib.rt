@@ -1,5 +1,7 @@
 // Rows in cells: row i of a state has cell i of its bytes, for a key and the value behind it, and cell i of its
 // lengths, for how many bytes of either count. What else a row holds is in cells of its own, beside these.
+#![tactic(auto)]
+
 use frame_forms::lengths::VALUE_ROOM;
 use keys::KEY_ROOM;
 

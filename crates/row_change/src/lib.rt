@@ -1,4 +1,6 @@
 // A change of one row: it is decided once, and made in each array of cells by itself.
+#![tactic(auto)]
+
 ghost use Rattle.std.specs.Prelude.{◌++◌, ◌≡◌, ◌+◌, ◌*◌, ◌≤◌, length};
 ghost use Rattle.cells.specs.Cells.{cells};
 ghost use Rattle.row_cells.specs.FreshRows.{cell_of};

@@ -1,4 +1,6 @@
 // Whether rows are well-formed, for any bits in them. Each test is one straight pass.
+#![tactic(auto)]
+
 ghost use Rattle.std.specs.Prelude.{true, ◌&&◌, ◌≡◌, ◌≤◌};
 ghost use Rattle.answers.specs.Refusals.{verdict};
 ghost use Rattle.base.specs.Bytes.{every};

@@ -1,4 +1,6 @@
 // The place of a key among the rows, and the change that sets or removes its row.
+#![tactic(auto)]
+
 ghost use Rattle.std.specs.Prelude.{◌≡◌};
 ghost use Rattle.row_cells.specs.Faults.{GoodRows};
 ghost use Rattle.row_cells.specs.Texts.{keys_of};

@@ -1,5 +1,7 @@
 // The server's entries on a state by value: what each gives back is the state after the call, with the answer. The work
 // is done by the entries on lent arrays; callers in Rattle that keep a state by value call these.
+#![tactic(auto)]
+
 ghost use Rattle.std.specs.Prelude.{length};
 ghost use Rattle.server_calls.specs.Calls.{kvset as asked, tick as told, icanhaz as requested};
 ghost use Rattle.server_calls.specs.Promises.{Began, Answered};

@@ -1,5 +1,7 @@
 // The calls of a server: what each refuses, makes of the state, writes and answers, as definitions; and what the
 // entries give back. The entries themselves are in a crate for each call.
+#![tactic(auto)]
+
 ghost use Rattle.std.specs.Prelude.{◌≡◌};
 ghost use Rattle.answers.specs.Answers.{answer};
 ghost use Rattle.answers.specs.declared.answer.Kind.TheVariants.{Refused, Wrote, Nothing};

@@ -1,5 +1,7 @@
 // What there is to do at a tick: a row that is due expires, or the server gives a sign of life, or nothing. These
 // functions only read.
+#![tactic(auto)]
+
 ghost use Rattle.std.specs.Prelude.{◌≡◌, ◌≤◌, ◌<◌};
 ghost use Rattle.numbers.specs.Sequences.{max_sequence};
 ghost use Rattle.row_cells.specs.Faults.{GoodRows};

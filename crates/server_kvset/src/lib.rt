@@ -1,4 +1,6 @@
 // KVSET: an update that a client asks for is made and published.
+#![tactic(auto)]
+
 ghost use Rattle.std.specs.Prelude.{length};
 ghost use Rattle.base.specs.Output.{Written};
 ghost use Rattle.ports.specs.Bodies.{fields_at};

@@ -1,4 +1,6 @@
 // ICANHAZ: the snapshot of a subtree is written.
+#![tactic(auto)]
+
 ghost use Rattle.std.specs.Prelude.{length};
 ghost use Rattle.server_calls.specs.Calls.{icanhaz as requested};
 ghost use Rattle.server_calls.specs.Promises.{Answered};

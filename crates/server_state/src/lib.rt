@@ -1,4 +1,6 @@
 // The state of a server: rows, each with a number and an expiry beside its key and its value; and a header.
+#![tactic(auto)]
+
 use numbers::sequence::Sequence;
 use numbers::tick::Tick;
 use row_cells::{MAX_ROWS, RowBytes, RowLengths};

@@ -1,4 +1,6 @@
 // Tick: a row that is due expires, or the server gives a sign of life.
+#![tactic(auto)]
+
 ghost use Rattle.std.specs.Prelude.{◌<◌, length};
 ghost use Rattle.row_cells.specs.Faults.{GoodRows};
 ghost use Rattle.server_calls.specs.Calls.{tick as told};

@@ -1,5 +1,7 @@
 // What an update comes to that a client asks for: its refusal, or the change of a row, the header after the call, and
 // the stamps of a row that is set. These functions only read.
+#![tactic(auto)]
+
 ghost use Rattle.std.specs.Prelude.{◌≡◌, ◌≤◌};
 ghost use Rattle.numbers.specs.Ticks.{max_tick};
 ghost use Rattle.ports.specs.Bodies.{fields_at};

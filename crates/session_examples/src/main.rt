@@ -18,6 +18,8 @@
 //   lookup|DESK|KEY                a desk looks up a key
 //   ask|DESK|TICK                  a desk asks whether the server is gone
 //   room|BYTES                     from here on there is so much output
+#![tactic(auto)]
+
 mod desk;
 mod session;
 mod studio;

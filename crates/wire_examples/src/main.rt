@@ -8,6 +8,8 @@
 //   & label|room|part|part|..    parts that are put into a buffer of so many bytes, one after another
 // A part is + if another one follows, . if none does, and then its bytes, or #N for the number N as eight octets, or *N
 // for N times x.
+#![tactic(auto)]
+
 mod build;
 mod judge;
 

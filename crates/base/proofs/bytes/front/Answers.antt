@@ -1,0 +1,12 @@
+-- `base::bytes::front` meets its contract: of fewer bytes the first n are all of them. Assumes nothing.
+use native.Mathlib.Omega.{arith}
+use mathlib.Core.Path.{sym}
+use lib.Seq.{take_all, length-take-le}
+use borrow.Author.Rules.{rules}
+use Rattle.base.proofs.bytes.front.Goals as goal
+
+pub returns-then-s-n : goal.returns-then-s-n
+returns-then-s-n c = sym (take_all c.args.n c.args.s.now (omega arith))
+
+pub slice_bounds-result-end : goal.slice_bounds-result-end
+slice_bounds-result-end c = sym (length-take-le c.args.n c.args.s.now (omega arith))

@@ -1,0 +1,35 @@
+-- `base::output::copy` meets its contract: the bytes passed are in place, and the rest of the output is as it was. Assumes nothing.
+use Prim.Native.Nat.{◌-◌, ◌≤◌}
+use native.Mathlib.Omega.{arith}
+use mathlib.Core.Path.{◌≡◌, refl, ◌∙◌}
+use lib.ListN.{length}
+use lib.Seq.{paste, paste-zero}
+use borrow.Author.Rules.{rules}
+use Rattle.base.proofs.OutputLaws.{paste_turn, paste_done}
+use Rattle.base.proofs.output.copy.Goals as goal
+
+pub loop-j-init : goal.loop-j-init
+loop-j-init c = (omega arith, paste-zero c.args.out.now c.args.at c.args.src.now, refl)
+
+pub overflow_add-out : goal.overflow_add-out
+overflow_add-out c = omega arith
+
+pub bounds-out-at : goal.bounds-out-at
+bounds-out-at c = omega arith
+
+pub overflow_add-j : goal.overflow_add-j
+overflow_add-j c = omega arith
+
+pub loop-j-smaller : goal.loop-j-smaller
+loop-j-smaller c = omega arith
+
+pub loop-j-preserved : goal.loop-j-preserved
+loop-j-preserved c = paste_turn _ _ _ _ _ c.requires c.loop-j.invariant c.loop-j-test.true
+
+pub shape_of-out : goal.shape_of-out
+shape_of-out c = c.loop-j.invariant.2
+
+pub returns : goal.returns
+returns c =
+    let a = c.args in
+    c.loop-j.invariant.1 ∙ paste_done a.out.now a.at a.src.now c.loop-j.j (omega arith)

@@ -1,0 +1,15 @@
+-- `keys::is_key` meets its contract: the flag tells of the bytes passed, and of all at the end. Assumes nothing.
+use Prim.Native.Nat.{◌-◌, ◌≤◌}
+use native.Mathlib.Omega.{arith}
+use mathlib.Core.Bool.{◌&&◌}
+use mathlib.Core.Path.{◌≡◌, refl, sym, ◌∙◌}
+use lib.ListN.{length, get_or, drop}
+use borrow.Author.Rules.{rules}
+use Rattle.keys.proofs.KeyLaws.{clean, clean_turn, clean_done, key_none, key-long, key_other, key_open, key-passed}
+use Rattle.keys.proofs.is_key.Given as goal
+
+abbrev pub invariant-loop-i : goal.invariant-loop-i
+invariant-loop-i l = (1 ≤ l.i) × ((l.i ≤ length l.s) × (clean (get_or l.s 0 0) (drop 1 l.s) ≡ (l.good && clean (get_or l.s (l.i - 1) 0) (drop l.i l.s))))
+
+abbrev pub decreases-loop-i : goal.decreases-loop-i
+decreases-loop-i l = length l.s - l.i
