@@ -1,4 +1,1 @@
-pub mod Apart
-pub mod Forms
-pub mod Made
 pub mod PlaceLaws

@@ -11,15 +11,15 @@ use Rattle.base.specs.declared.bytes.Position.TheVariants.{At}
 use Rattle.properties.proofs.PropertyLaws.{lines_left, too_long, lines_begin, lines_end, unended, bad_line, good_line}
 use Rattle.properties.specs.Properties.{properties_of}
 use Rattle.properties.proofs.read.read_properties.Goals as goal
-use Rattle.properties.proofs.read.read_properties.Goals.{In-At-2}
+use Rattle.properties.proofs.read.read_properties.Goals.{In-At}
 
-newline-at : (c : In-At-2) → At c.in-At.end ≡ found_of 10 c.loop-rest.rest.now
+newline-at : (c : In-At) → At c.in-At.end ≡ found_of 10 c.loop-rest.rest.now
 newline-at c = sym c.in-At.is ∙ c.find_byte.ensures
 
-inside : (c : In-At-2) → c.in-At.end < length c.loop-rest.rest.now
+inside : (c : In-At) → c.in-At.end < length c.loop-rest.rest.now
 inside c = (cut_at 10 _ _ (newline-at c)).below
 
-left_shorter : (c : In-At-2) → length (take (length c.loop-rest.rest.now - (c.in-At.end + 1)) (drop (c.in-At.end + 1) c.loop-rest.rest.now)) < length c.loop-rest.rest.now
+left_shorter : (c : In-At) → length (take (length c.loop-rest.rest.now - (c.in-At.end + 1)) (drop (c.in-At.end + 1) c.loop-rest.rest.now)) < length c.loop-rest.rest.now
 left_shorter c = omega (arith, inside c, tail_length c.loop-rest.rest.now (c.in-At.end + 1))
 
 pub returns-then-s-gt-PROPERTIES_ROOM : goal.returns-then-s-gt-PROPERTIES_ROOM
@@ -34,27 +34,27 @@ pub returns-in_default : goal.returns-in_default
 returns-in_default c = unended _ _ _ c.loop-rest.invariant.0 (omega (arith, c.loop-rest-test.true)) (sym c.in_default.is ∙ c.find_byte.ensures)
 
 pub slice_bounds-add_line-end : goal.slice_bounds-add_line-end
-slice_bounds-add_line-end c = sym (length-take-le c.in-At.end c.loop-rest.rest.now (omega (arith, inside ((goal.at.slice_bounds-add_line-end c).In-At-2))))
+slice_bounds-add_line-end c = sym (length-take-le c.in-At.end c.loop-rest.rest.now (omega (arith, inside ((goal.at.slice_bounds-add_line-end c).In-At))))
 
 pub returns-in_default-add_line : goal.returns-in_default-add_line
 returns-in_default-add_line c =
-    bad_line _ _ _ c.loop-rest.invariant.0 _ (newline-at ((goal.at.returns-in_default-add_line c).In-At-2)) (sym c.in_default-add_line.is ∙ c.add_line.ensures)
+    bad_line _ _ _ c.loop-rest.invariant.0 _ (newline-at ((goal.at.returns-in_default-add_line c).In-At)) (sym c.in_default-add_line.is ∙ c.add_line.ensures)
 
 pub overflow_add-rest : goal.overflow_add-rest
-overflow_add-rest c = omega (arith, inside ((goal.at.overflow_add-rest c).In-At-2), c.loop-rest.invariant.1, c.well_formed)
+overflow_add-rest c = omega (arith, inside ((goal.at.overflow_add-rest c).In-At), c.loop-rest.invariant.1, c.well_formed)
 
 pub slice_bounds-rest-count : goal.slice_bounds-rest-count
-slice_bounds-rest-count c = omega (arith, inside ((goal.at.slice_bounds-rest-count c).In-At-2))
+slice_bounds-rest-count c = omega (arith, inside ((goal.at.slice_bounds-rest-count c).In-At))
 
 pub slice_bounds-rest-start : goal.slice_bounds-rest-start
-slice_bounds-rest-start c = omega (arith, inside ((goal.at.slice_bounds-rest-start c).In-At-2))
+slice_bounds-rest-start c = omega (arith, inside ((goal.at.slice_bounds-rest-start c).In-At))
 
 pub loop-rest-smaller : goal.loop-rest-smaller
-loop-rest-smaller c = left_shorter ((goal.at.loop-rest-smaller c).In-At-2)
+loop-rest-smaller c = left_shorter ((goal.at.loop-rest-smaller c).In-At)
 
 pub loop-rest-preserved : goal.loop-rest-preserved
 loop-rest-preserved c =
-    let e = c.before.before.before.before.before.before.before in
+    let e = (goal.at.loop-rest-preserved c).In-At in
     (good_line _ _ _ c.loop-rest.invariant.0 _ (newline-at e) _ (sym c.in-Good.is ∙ c.add_line.ensures), omega (arith, left_shorter e, c.loop-rest.invariant.1))
 
 pub returns : goal.returns

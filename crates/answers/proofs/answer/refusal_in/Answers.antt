@@ -4,15 +4,14 @@ use mathlib.Core.List.{List, [], ◌∷◌}
 use mathlib.Core.Path.{◌≡◌, refl}
 use borrow.Author.Rules.{rules}
 use denote.Enum.Declared.{tag_of}
+use borrow.Enum.Refused.{opened}
 use types.Run.{OneOf, miss}
 use Rattle.answers.specs.Answers.{refusal_in}
 use Rattle.answers.specs.declared.answer.Kind.TheVariants.{Refused, Started, Applied, Stale, Outside, Synced, Live, Heard, Wrote, Nothing, Found, Absent, Present, Gone}
 use Rattle.answers.specs.declared.answer.Kind.{Kind}
 use Rattle.answers.specs.contracts.answer.Kind.{the_type}
-use Rattle.answers.proofs.answer.refusal_in.Statement.{statement}
-use Rattle.answers.proofs.answer.refusal_in.Tie as tie
+use Rattle.answers.proofs.answer.refusal_in.Goals as goal
 
--- the kinds but the first
 abbrev others : List ℕ
 others = 1 ∷ 2 ∷ 3 ∷ 4 ∷ 5 ∷ 6 ∷ 7 ∷ 8 ∷ 9 ∷ 10 ∷ 11 ∷ 12 ∷ 13 ∷ []
 
@@ -32,17 +31,8 @@ no-refusal (Absent n) h = refl
 no-refusal (Present n) h = refl
 no-refusal (Gone n) h = refl
 
-enum-known-kind : tie.Need-enum-known-kind
-enum-known-kind c = search rules
+pub returns-in-Refused : goal.returns-in-Refused
+returns-in-Refused c = rw c.in-Refused.is c.refusal_number.ensures
 
-refusal-number-requires : tie.Need-refusal-number-requires
-refusal-number-requires c κs = search rules
-
-returns : tie.Need-returns
-returns c = rw c.before.before.kind.given.1 c.refusal-number.ensures
-
-returns-2 : tie.Need-returns-2
-returns-2 c = no-refusal c.before.args.kind c.match.keys2
-
-pub refusal-in-spec : {M : Type 1} → statement M
-refusal-in-spec = tie.close (tie.spec enum-known-kind refusal-number-requires returns returns-2)
+pub returns-in_default : goal.returns-in_default
+returns-in_default c = no-refusal c.args.kind (opened c.in_default.in_default-own.keys2)
