@@ -7,7 +7,7 @@ use crate::refusal::Refusal;
 use numbers::sequence::Sequence;
 
 // What came of a call. The number is that of the state that the call returned.
-#[derive(Drop)]
+#[derive(Clone, Copy)]
 pub enum Kind {
     Refused(Refusal, Sequence),
     Started(Sequence),
@@ -25,7 +25,7 @@ pub enum Kind {
     Gone(Sequence),
 }
 
-#[derive(Drop)]
+#[derive(Clone, Copy)]
 pub struct Answer {
     pub kind: Kind,
     pub written: usize,

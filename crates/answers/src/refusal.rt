@@ -3,7 +3,7 @@ ghost use Rattle.std.specs.Prelude.{◌≡◌};
 ghost use Rattle.answers.specs.Refusals.{refusal_number, verdict_number};
 
 // Why a call is refused.
-#[derive(Drop)]
+#[derive(Clone, Copy)]
 pub enum Refusal {
     // Bytes that are not a run of whole frames up to the last.
     Framing,
@@ -40,7 +40,7 @@ pub enum Refusal {
 }
 
 // What checks come to.
-#[derive(Drop)]
+#[derive(Clone, Copy)]
 pub enum Verdict {
     Accept,
     Refuse(Refusal),

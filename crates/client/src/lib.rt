@@ -15,7 +15,7 @@ use numbers::tick::Tick;
 use row_cells::{CELL, LENGTHS, MAX_ROWS};
 
 // The state after a call, and what the call answers.
-#[derive(Drop)]
+#[derive(Clone, Copy)]
 pub struct Reply {
     pub state: Client,
     pub answer: Answer,

@@ -14,7 +14,7 @@ use client_state::Header;
 use numbers::sequence::Sequence;
 
 // What a call leaves of a state whose arrays are lent: the header, and what the call answers.
-#[derive(Drop)]
+#[derive(Clone, Copy)]
 pub struct Outcome {
     pub header: Header,
     pub answer: Answer,

@@ -17,7 +17,7 @@ use row_change::Change;
 
 // It is refused; or the header changes alone, or a row with it, and the answer is of a kind. The header is that after
 // the call.
-#[derive(Drop)]
+#[derive(Clone, Copy)]
 pub enum Plan {
     Refuse(Refusal),
     Note(Header, Kind),

@@ -20,7 +20,7 @@ use row_cells::{RowBytes, RowLengths, text};
 use row_search::Found;
 
 // What a search for a key comes to: it is refused, a row has the key, or none has.
-#[derive(Drop)]
+#[derive(Clone, Copy)]
 pub enum Search {
     Refuse(Refusal),
     Row(usize),

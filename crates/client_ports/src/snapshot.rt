@@ -17,7 +17,7 @@ use numbers::sequence::{Numbered, Sequence};
 use ports::frame_count::check_framing;
 
 // What a message of a snapshot is: it is refused, it is the end with the server's number, or it is a row.
-#[derive(Drop)]
+#[derive(Clone, Copy)]
 pub enum Sent {
     Refuse(Refusal),
     Kthxbai(Sequence),

@@ -17,7 +17,7 @@ use ports::frame_count::check_framing;
 use ports::update::check_payload;
 
 // What a message that was published is: it is refused, it is a sign of life, or it is an update with its number.
-#[derive(Drop)]
+#[derive(Clone, Copy)]
 pub enum Published {
     Refuse(Refusal),
     Hugz,

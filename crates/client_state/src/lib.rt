@@ -19,7 +19,7 @@ pub type SubtreeBytes = [u8; KEY_ROOM];
 
 // The phase, the number of the last update that was taken, the time from which the server's silence is counted, how
 // long the subtree is, and how many rows there are.
-#[derive(Drop)]
+#[derive(Clone, Copy)]
 pub struct Header {
     pub phase: u64,
     pub number: Sequence,
@@ -29,7 +29,7 @@ pub struct Header {
 }
 
 // Row i has cell i of bytes and of lengths. The subtree is at the front of its array.
-#[derive(Drop)]
+#[derive(Clone, Copy)]
 pub struct Client {
     pub bytes: RowBytes,
     pub lengths: RowLengths,

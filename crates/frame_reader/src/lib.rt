@@ -10,7 +10,7 @@ use frames::step;
 use frames::step::Step;
 
 // A message and a place in it.
-#[derive(Drop)]
+#[derive(Clone, Copy)]
 pub struct Reader<'a> {
     pub src: &'a [u8],
     pub at: usize,

@@ -6,7 +6,7 @@ use base::octets;
 
 // A frame at the front of some bytes: its body is the len bytes from start on, and more says whether another frame
 // follows. Broken where the bytes begin with no whole frame.
-#[derive(Drop)]
+#[derive(Clone, Copy)]
 pub enum Step {
     Frame {
         start: usize,

@@ -9,7 +9,7 @@ use base::bytes;
 use frames::step::Step;
 
 // How the walk over the frames of a message ends.
-#[derive(Drop)]
+#[derive(Clone, Copy)]
 pub enum Framing {
     // After so many frames, with the last of them and nothing behind it.
     Frames(usize),
@@ -23,7 +23,7 @@ pub enum Framing {
 pub const KEPT: usize = 5;
 
 // Where the bodies of the first five frames start, and how long they are; 0 and 0 for a frame that is not there.
-#[derive(Drop)]
+#[derive(Clone, Copy)]
 pub struct Places {
     pub starts: [usize; 5],
     pub lens: [usize; 5],
@@ -31,7 +31,7 @@ pub struct Places {
 
 // A message that is split into its frames: its framing, where the walk stopped, and the places of the bodies. Where the
 // framing is unsound, no body has a place.
-#[derive(Drop)]
+#[derive(Clone, Copy)]
 pub struct Split {
     pub framing: Framing,
     pub stop: usize,

@@ -5,20 +5,20 @@ ghost use Rattle.numbers.specs.Sequences.{numbered_of, is_kept, following_of};
 use base::octets;
 
 #[repr(C)]
-#[derive(Drop)]
+#[derive(Clone, Copy)]
 pub struct Sequence(pub u64);
 
 pub const MAX_SEQUENCE: u64 = 9223372036854775807;
 
 // What a sequence frame says: eight octets are a number.
-#[derive(Drop)]
+#[derive(Clone, Copy)]
 pub enum Numbered {
     By(Sequence),
     Unnumbered,
 }
 
 // The number of the next update, if there is one.
-#[derive(Drop)]
+#[derive(Clone, Copy)]
 pub enum Following {
     Next(Sequence),
     Exhausted,

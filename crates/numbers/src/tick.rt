@@ -4,7 +4,7 @@ ghost use Rattle.base.specs.Output.{largest};
 ghost use Rattle.numbers.specs.Ticks.{is_time};
 
 #[repr(C)]
-#[derive(Drop)]
+#[derive(Clone, Copy)]
 pub struct Tick(pub u64);
 
 pub const MAX_TICK: u64 = 4611686018427387904;

@@ -5,7 +5,7 @@ ghost use Rattle.parts.specs.Build.{part_of, Put, length_of};
 use frame_writer::frame;
 
 // How far a message is built.
-#[derive(Drop)]
+#[derive(Clone, Copy)]
 pub enum Built {
     // So many bytes of frames, the last of which promises another. A message begins with none.
     Open(usize),

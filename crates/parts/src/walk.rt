@@ -7,7 +7,7 @@ use frames::step::Step;
 
 // The next frame: its body is the len bytes from start on, and more says whether another frame of the same message
 // follows. End where there is none.
-#[derive(Drop)]
+#[derive(Clone, Copy)]
 pub enum Taken {
     Body {
         start: usize,

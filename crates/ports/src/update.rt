@@ -10,7 +10,7 @@ use frame_forms::lengths;
 use properties::read::{Lifetime, Properties};
 
 // What an update comes to by its frames: it is refused, or its row lasts as long as its properties say.
-#[derive(Drop)]
+#[derive(Clone, Copy)]
 pub enum Update {
     Refuse(Refusal),
     Lasting(Lifetime),

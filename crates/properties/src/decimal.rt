@@ -5,7 +5,7 @@ ghost use Rattle.properties.specs.Decimals.{decimal_of};
 use base::octets;
 
 // What some bytes say as a decimal number.
-#[derive(Drop)]
+#[derive(Clone, Copy)]
 pub enum Decimal {
     Is(u64),
     Wrong,

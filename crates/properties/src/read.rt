@@ -15,21 +15,21 @@ pub const TTL_DIGITS: usize = 5;
 pub const MAX_TTL: u32 = 86400;
 
 // How long a row lives: for ever, or some seconds. A lifetime of 0 seconds is one.
-#[derive(Drop)]
+#[derive(Clone, Copy)]
 pub enum Lifetime {
     Unlimited,
     Seconds(u64),
 }
 
 // What a properties frame says.
-#[derive(Drop)]
+#[derive(Clone, Copy)]
 pub enum Properties {
     Good(Lifetime),
     Malformed,
 }
 
 // What a line says: a lifetime, something else, or nothing that a line may say.
-#[derive(Drop)]
+#[derive(Clone, Copy)]
 pub(crate) enum Line {
     Other,
     Lasting(u64),

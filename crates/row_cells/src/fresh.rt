@@ -9,7 +9,7 @@ use base::output;
 use frame_forms::lengths::VALUE_ROOM;
 use keys::KEY_ROOM;
 
-#[derive(Drop)]
+#[derive(Clone, Copy)]
 pub struct Row {
     pub key: [u8; KEY_ROOM],
     pub value: [u8; VALUE_ROOM],

@@ -12,7 +12,7 @@ use row_cells::fresh::Row;
 use row_cells::{CELL, LENGTHS, MAX_ROWS, RowBytes, RowLengths};
 
 // What happens to the rows: nothing, or one of them is taken out, set anew, or put in at its place.
-#[derive(Drop)]
+#[derive(Clone, Copy)]
 pub enum Change {
     Leave,
     Remove(usize),

@@ -11,7 +11,7 @@ use row_cells::{RowBytes, RowLengths, text};
 use row_change::Change;
 
 // The row that has the key, or the place where one with it would be.
-#[derive(Drop)]
+#[derive(Clone, Copy)]
 pub enum Found {
     At(usize),
     Missing(usize),

@@ -13,7 +13,7 @@ use row_cells::{CELL, LENGTHS, MAX_ROWS};
 use server_state::{STAMPS, Server};
 
 // The state after a call, and what the call answers.
-#[derive(Drop)]
+#[derive(Clone, Copy)]
 pub struct Reply {
     pub state: Server,
     pub answer: Answer,

@@ -12,7 +12,7 @@ use answers::refusal::Refusal;
 use server_state::Header;
 
 // What a call leaves of a state whose arrays are lent: the header, and what the call answers.
-#[derive(Drop)]
+#[derive(Clone, Copy)]
 pub struct Outcome {
     pub header: Header,
     pub answer: Answer,

@@ -8,7 +8,7 @@ use numbers::tick::Tick;
 use server_state::{RowStamps, stamps as row_stamps};
 
 // A row that is due, with its expiry.
-#[derive(Drop)]
+#[derive(Clone, Copy)]
 pub enum Due {
     At(usize, Tick),
     Nothing,

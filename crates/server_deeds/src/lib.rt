@@ -28,7 +28,7 @@ pub const HEARTBEAT_MS: u64 = 1000;
 const HUGZ_LENGTH: usize = 22;
 
 // It is refused; or a row expires, it gives a sign of life, or it does nothing, each with the header after the call.
-#[derive(Drop)]
+#[derive(Clone, Copy)]
 pub enum Plan {
     Refuse(Refusal),
     Expire(usize, Header),

@@ -20,7 +20,7 @@ pub type RowStamps = [u64; MAX_ROWS * STAMPS];
 
 // The number of the last update, the times of the last call with a tick and of the last publication, and how many rows
 // there are.
-#[derive(Drop)]
+#[derive(Clone, Copy)]
 pub struct Header {
     pub number: Sequence,
     pub last_tick: Tick,
@@ -29,7 +29,7 @@ pub struct Header {
 }
 
 // Row i has cell i of each array.
-#[derive(Drop)]
+#[derive(Clone, Copy)]
 pub struct Server {
     pub bytes: RowBytes,
     pub lengths: RowLengths,

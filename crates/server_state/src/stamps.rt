@@ -13,7 +13,7 @@ use numbers::tick::Tick;
 use row_change::Change;
 
 // What a server notes of a row: the number of its last set, and its expiry.
-#[derive(Drop)]
+#[derive(Clone, Copy)]
 pub struct Stamps {
     pub number: Sequence,
     pub expiry: Tick,

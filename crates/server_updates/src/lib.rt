@@ -25,7 +25,7 @@ use server_state::stamps::Stamps;
 use server_state::{Header, RowStamps, expiry, validate};
 
 // It is refused; or a row changes, under the header after the call. A row that is set has the stamps.
-#[derive(Drop)]
+#[derive(Clone, Copy)]
 pub enum Plan {
     Refuse(Refusal),
     Store(Change, Header, Stamps),

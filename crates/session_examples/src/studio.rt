@@ -6,7 +6,7 @@ use numbers::sequence::Sequence;
 use numbers::tick::Tick;
 use server_state::Server;
 
-#[derive(Drop)]
+#[derive(Clone, Copy)]
 pub(crate) struct Studio {
     pub server: Server,
     pub seven: Client,

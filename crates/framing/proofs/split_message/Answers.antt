@@ -1,0 +1,64 @@
+-- `framing::split_message` meets its contract: what is known of the message behind each frame (`Passed`) goes on from
+-- frame to frame. Assumes nothing.
+use Prim.Native.Nat.{◌+◌, ◌-◌, ◌≤◌}
+use native.Mathlib.Omega.{arith}
+use mathlib.Core.Bool.{Bool, true, false}
+use mathlib.Core.Path.{◌≡◌, refl, sym, ◌∙◌}
+use lib.ListN.{length}
+use borrow.Author.Rules.{rules}
+use borrow.Author.Tests.{not-true, not-false}
+use Rattle.base.specs.Bytes.{Bytes}
+use Rattle.frame_reader.specs.Places.{step_at}
+use Rattle.frames.specs.declared.step.Step.TheVariants.{Frame}
+use Rattle.framing.proofs.SplitLaws.{Passed, passed_none, passed-more, lies, stopped_broken, stopped_last, stopped_surplus}
+use Rattle.framing.proofs.split_message.Goals as goal
+use Rattle.framing.proofs.split_message.Goals.{In-Frame}
+
+abbrev all : tie.At-loop invariant-loop decreases-loop → Bytes
+all c = c.before.before.args.msg.now
+
+abbrev turn : tie.After-known-told invariant-loop decreases-loop → tie.At-loop invariant-loop decreases-loop
+turn c = c.before.before.before.before
+
+told : (c : In-Frame) (more : Bool) → c.in-Frame.more ≡ more
+    → Frame c.in-Frame.start c.in-Frame.len more ≡ step_at (all (turn c)) (turn c).loop.at
+told c more e = rw e at (sym c.in-Frame.is ∙ c.frame_at.ensures)
+
+within : (c : In-Frame)
+    → (2 ≤ c.in-Frame.start) × ((turn c).loop.at + (c.in-Frame.start + c.in-Frame.len) ≤ length (all (turn c)))
+within c = lies (all (turn c)) _ _ _ (turn c).loop.invariant _ _ _ (told c _ refl)
+
+pub loop-start-init : goal.loop-start-init
+loop-start-init c = passed_none _
+
+pub returns-in_default : goal.returns-in_default
+returns-in_default c = stopped_broken _ _ _ _ c.loop-start.invariant (sym c.in_default.is ∙ c.frame_at.ensures)
+
+pub overflow_add-at : goal.overflow_add-at
+overflow_add-at c = omega (arith, within ((goal.at.overflow_add-at c).In-Frame))
+
+pub overflow_add-at-in-loop-start : goal.overflow_add-at-in-loop-start
+overflow_add-at-in-loop-start c = omega (arith, within ((goal.at.overflow_add-at-in-loop-start c).In-Frame))
+
+pub overflow_add-at-in-loop-start-2 : goal.overflow_add-at-in-loop-start-2
+overflow_add-at-in-loop-start-2 c = omega (arith, within ((goal.at.overflow_add-at-in-loop-start-2 c).In-Frame))
+
+pub overflow_add-n : goal.overflow_add-n
+overflow_add-n c = omega (arith, within ((goal.at.overflow_add-n c).In-Frame), (turn c.before).loop.inv.few)
+
+pub returns-then-at-msg : goal.returns-then-at-msg
+returns-then-at-msg c =
+    stopped_surplus _ _ _ _ (turn c.before.before.before).loop.inv _ _ (told ((goal.at.returns-then-at-msg c).In-Frame) false (not-true _ c.if-last.true)) c.if-at-msg.true
+
+pub returns-then-last : goal.returns-then-last
+returns-then-last c =
+    rw c.note-places.ensures
+    (stopped_last _ _ _ _ (turn c.before.before.before).loop.inv _ _ (told ((goal.at.returns-then-last c).In-Frame) false (not-true _ c.if-last.true)) c.if-at-msg.false)
+
+pub loop-start-smaller : goal.loop-start-smaller
+loop-start-smaller c = omega (arith, within ((goal.at.loop-start-smaller c).In-Frame))
+
+pub loop-start-preserved : goal.loop-start-preserved
+loop-start-preserved c =
+    rw c.note-places.ensures
+    (passed-more _ _ _ _ (turn c.before.before).loop.inv _ _ (told ((goal.at.loop-start-preserved c).In-Frame) true (not-false _ c.if-last.false)))

@@ -1,0 +1,13 @@
+-- `row_cells::text::key_at` meets its contract: a part of the row's cell, as long as its length says. Assumes nothing.
+use Prim.Native.Nat.{ℕ}
+use mathlib.Core.Path.{ap, ◌∙◌}
+use lib.ListN.{take}
+use Rattle.cells.specs.Cells.{cell_at}
+use Rattle.row_cells.specs.Sizes.{cell_size}
+use borrow.Author.Rules.{rules}
+use Rattle.row_cells.proofs.text.key_at.Goals as goal
+
+pub returns : goal.returns
+returns c =
+    let a = c.args in
+    c.part.ensures ∙ ap (λ (n : ℕ). take n (cell_at cell_size a.i a.bytes.now)) c.key_length_at.ensures
