@@ -22,26 +22,26 @@ pub change_row-requires : goal.change_row-requires
 change_row-requires c =
     let s = (goal.at.change_row-requires c).Start in
     let split = (goal.at.change_row-requires c).After-slice_known-1 in
-    stored_fits (state s) (msg s) s.args.tick.0 s.args.out.now split.split-message.result split.split-message.ensures c.plan_kvset.ensures c.in-Store.is
+    stored_fits (state s) (msg s) s.args.tick.0 s.args.out.now c.split_message-split.result c.split_message-split.ensures c.plan_kvset.ensures c.in-Store.is
 
 pub change_stamps-requires : goal.change_stamps-requires
 change_stamps-requires c =
     let s = (goal.at.change_stamps-requires c).Start in
     let split = (goal.at.change_stamps-requires c).After-slice_known-1 in
-    stored_fits (state s) (msg s) s.args.tick.0 s.args.out.now split.split-message.result split.split-message.ensures c.plan_kvset.ensures c.in-Store.is
+    stored_fits (state s) (msg s) s.args.tick.0 s.args.out.now c.split_message-split.result c.split_message-split.ensures c.plan_kvset.ensures c.in-Store.is
 
 pub returns-in-Refuse : goal.returns-in-Refuse
 returns-in-Refuse c =
     let s = (goal.at.returns-in-Refuse c).Start in
     let split = (goal.at.returns-in-Refuse c).Start in
     refused_call (state s) (kvset (msg s) s.args.tick.0 (length s.args.out.now)) s.args.out.now _ _ _
-    (kvset_stopped (state s) (msg s) s.args.tick.0 s.args.out.now split.split-message.result split.split-message.ensures c.plan_kvset.ensures c.in-Refuse.is)
+    (kvset_stopped (state s) (msg s) s.args.tick.0 s.args.out.now c.split_message-split.result c.split_message-split.ensures c.plan_kvset.ensures c.in-Refuse.is)
     (ap (lent s.args.bytes.now s.args.lengths.now s.args.stamps.now) c.refused.ensures.0) c.refused.ensures.1
 
 pub returns-in-Store : goal.returns-in-Store
 returns-in-Store c =
     let s = (goal.at.returns-in-Store c).Start in
     let split = (goal.at.returns-in-Store c).After-plan_kvset in
-    kvset_stored (state s) (msg s) s.args.tick.0 s.args.out.now split.split_message-split.result split.split_message-split.ensures c.plan_kvset.ensures c.in-Store.is
+    kvset_stored (state s) (msg s) s.args.tick.0 s.args.out.now c.split_message-split.result c.split_message-split.ensures c.plan_kvset.ensures c.in-Store.is
     c.body-key.ensures c.body-value.ensures _ c.fresh_row-fresh.ensures c.change_row.ensures c.change_stamps.ensures
     c.publish-written.ensures c.wrote.ensures

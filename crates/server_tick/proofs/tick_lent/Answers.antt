@@ -38,4 +38,4 @@ returns-in-Beat c =
 pub returns-in-Quiet : goal.returns-in-Quiet
 returns-in-Quiet c =
     let s = (goal.at.returns-in-Quiet c).Start in
-    tick_quiet (state s) s.args.tick.0 s.args.out.now c.plan_tick.ensures c.in-Quiet.is c.Did-nothing.ensures
+    tick_quiet (state s) s.args.tick.0 s.args.out.now c.plan_tick.ensures c.in-Quiet.is c.did_nothing.ensures
