@@ -39,11 +39,13 @@ is_among b (bs ▷ c) e = go (same b c) refl e (is_among b bs)
 
 pub are_among : (bs cs : Log Bytes) → all_among bs cs ≡ true → (b : Bytes) → Among b bs → Among b cs
 unfolding all_among
+are_among empty cs e b x' = elim x' [ ]
 are_among (bs ▷ c) cs e b (inl h) = rw h (is_among c cs (and_left (among c cs) (all_among bs cs) e))
 are_among (bs ▷ c) cs e b (inr h) = are_among bs cs (and_right (among c cs) (all_among bs cs) e) b h
 
 pub not_among : (b : Bytes) (cs : Log Bytes) → among b cs ≡ false → Among b cs → ⊥
 unfolding among
+not_among b empty e x' = elim x' [ ]
 not_among b (cs ▷ c) e (inl h) = true≢false (sym (same_refl b) ∙ ap (same b) h ∙ or_left (same b c) (among b cs) e)
 not_among b (cs ▷ c) e (inr h) = not_among b cs (or_right (same b c) (among b cs) e) h
 
@@ -74,6 +76,7 @@ not_between v b c e k u l r = true≢false (sym e ∙ rw (k, u, lt-ltb v.number 
 nothing_between : (v : Replica) (b : Bytes) (cs : Log Bytes) → none_between v b cs ≡ true
     → (c : Bytes) → Among c cs → is_kvpub c ≡ true → under v.subtree (key_of c) ≡ true → v.number < number_of c → number_of c < number_of b → ⊥
 unfolding none_between
+nothing_between v b empty e c x' = elim x' [ ]
 nothing_between v b (cs ▷ d) e c (inl h) = rw h (not_between v b d (and_left (not (between v b d)) (none_between v b cs) e))
 nothing_between v b (cs ▷ d) e c (inr h) = nothing_between v b cs (and_right (not (between v b d)) (none_between v b cs) e) c h
 

@@ -1,0 +1,9 @@
+-- `chp::client::chp_lent_client_lookup` meets its contract: what the entry promises, with header and answer as words. Assumes nothing.
+use borrow.Author.Rules.{rules}
+use Rattle.chp.proofs.ExportLaws.{client-asked}
+use Rattle.chp.proofs.client.chp_lent_client_lookup.Goals as goal
+
+pub returns : goal.returns
+returns c =
+    let e = c.header_of-before.ensures in
+    client-asked c.put_answer.ensures c.args.header.now _ e c.lookup_lent-a.ensures _ e

@@ -1,0 +1,9 @@
+-- `chp::server::chp_lent_server_kvset` meets its contract: what the entry promises, with header and answer as words. Assumes nothing.
+use borrow.Author.Rules.{rules}
+use Rattle.chp.proofs.ExportLaws.{server-answered}
+use Rattle.chp.proofs.server.chp_lent_server_kvset.Goals as goal
+
+pub returns : goal.returns
+returns c =
+    let put = c.put_outcome.ensures in
+    server-answered put.1 c.args.header.now _ c.header_of-before.ensures c.kvset_lent-r.ensures put.0
