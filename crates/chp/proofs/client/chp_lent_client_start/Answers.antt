@@ -7,4 +7,4 @@ pub returns : goal.returns
 returns c =
     let put = c.put_outcome.ensures in
     let call = c.start_lent-r.ensures in
-    (client-began put.1 _ _ call.0 put.0, call.1)
+    record { begins = client-began put.1 _ _ call.begins put.0; zeroed = call.zeroed }

@@ -11,9 +11,9 @@ unfolding put
 cell = refl
 
 pub returns : goal.returns
-returns c = (
-  refl,
-  record {
+returns c = record {
+  rows = refl;
+  marks = record {
     of_cell = c.put_bytes.ensures.out ∙ cell;
     of_lengths = refl;
     of_stamps = refl;
@@ -21,5 +21,5 @@ returns c = (
     of_subtree = refl;
     of_client = refl;
     of_answer = refl;
-  },
-)
+  };
+}
