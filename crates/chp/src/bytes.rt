@@ -1,7 +1,7 @@
 // Messages as bytes, for hosts: the two value entries, and the first of several messages.
 ghost use Rattle.std.specs.Prelude.{◌≡◌, length};
 ghost use Rattle.answers.specs.Refusals.{verdict, verdict_number};
-ghost use Rattle.base.specs.Checks.{first_of};
+ghost use Rattle.base.specs.Checks.{first_refusal};
 ghost use Rattle.chp.specs.Values.{IsValueLength};
 ghost use Rattle.frames.specs.Runs.{message_in};
 ghost use Rattle.ports.specs.Ports.{value_port};
@@ -19,7 +19,7 @@ pub extern "C" fn chp_bytes_value_length(msg: &[u8]) -> usize
 // 0 where a message has five frames, and else the number of its refusal.
 #[unsafe(no_mangle)]
 pub extern "C" fn chp_bytes_value_refusal(msg: &[u8]) -> u64
-    ensures { result ≡ verdict_number (verdict (first_of (value_port msg.now))) }
+    ensures { result ≡ verdict_number (verdict (first_refusal (value_port msg.now))) }
 {
     value::value_refusal(msg)
 }

@@ -2,7 +2,7 @@
 #![tactic(auto)]
 
 ghost use Rattle.std.specs.Prelude.{◌≡◌, length};
-ghost use Rattle.base.specs.Checks.{first_of};
+ghost use Rattle.base.specs.Checks.{first_refusal};
 ghost use Rattle.client_calls.specs.Calls.{lookup as wanted};
 ghost use Rattle.client_calls.specs.Promises.{Answered};
 ghost use Rattle.client_lookup.specs.Search.{key_checks, search_of};
@@ -36,7 +36,7 @@ fn search_rows<'a>(
     key: &'a [u8],
 ) -> Search
     requires { GoodRows count bytes.now lengths.now }
-    ensures { result ≡ search_of (first_of (key_checks phase key.now))
+    ensures { result ≡ search_of (first_refusal (key_checks phase key.now))
         (place_of 0 key.now (keys_of count bytes.now lengths.now)) }
 {
     if !keys::is_key(key) {

@@ -1,7 +1,7 @@
 // The client's port for snapshots: KTHXBAI, or else KVSYNC.
 ghost use Rattle.std.specs.Prelude.{◌≡◌};
 ghost use Rattle.answers.specs.Refusals.{verdict};
-ghost use Rattle.base.specs.Checks.{first_of};
+ghost use Rattle.base.specs.Checks.{first_refusal};
 ghost use Rattle.client_ports.specs.Readings.{end_of, sent_of};
 ghost use Rattle.ports.specs.Bodies.{fields_at, snapshot_by};
 ghost use Rattle.ports.specs.Ports.{row_value_checks, kvsync_checks, kthxbai_checks, snapshot_checks};
@@ -26,7 +26,7 @@ pub enum Sent {
 
 // The value of a row.
 fn check_row_value(value: &[u8]) -> Verdict
-    ensures { result ≡ verdict (first_of (row_value_checks value.now)) }
+    ensures { result ≡ verdict (first_refusal (row_value_checks value.now)) }
 {
     if value.len() == 0 {
         return Verdict::Refuse(Refusal::BadValue);
@@ -39,7 +39,7 @@ fn check_row_value(value: &[u8]) -> Verdict
 
 // The frames of a KVSYNC in the snapshot of a subtree.
 fn check_kvsync_frames(msg: &[u8], places: Places, subtree: &[u8]) -> Verdict
-    ensures { result ≡ verdict (first_of
+    ensures { result ≡ verdict (first_refusal
         (kvsync_checks subtree.now (fields_at msg.now places))) }
 {
     let key = framing::body(msg, places, HEAD);
@@ -61,7 +61,7 @@ fn check_kvsync_frames(msg: &[u8], places: Places, subtree: &[u8]) -> Verdict
 // The frames of a KTHXBAI at the end of the snapshot of a subtree.
 fn read_kthxbai_frames(msg: &[u8], places: Places, subtree: &[u8]) -> Sent
     ensures { result ≡ end_of (fields_at msg.now places)
-        (first_of (kthxbai_checks subtree.now (fields_at msg.now places))) }
+        (first_refusal (kthxbai_checks subtree.now (fields_at msg.now places))) }
 {
     if !bytes::same_bytes(subtree, framing::body(msg, places, VALUE)) {
         return Sent::Refuse(Refusal::BadSubtree);
@@ -81,7 +81,7 @@ fn read_kthxbai_frames(msg: &[u8], places: Places, subtree: &[u8]) -> Sent
 // The frames of a KTHXBAI, or else of a KVSYNC.
 fn read_sent_frames(msg: &[u8], places: Places, subtree: &[u8]) -> Sent
     ensures { result ≡ sent_of (fields_at msg.now places)
-        (first_of (snapshot_checks subtree.now (fields_at msg.now places))) }
+        (first_refusal (snapshot_checks subtree.now (fields_at msg.now places))) }
 {
     if words::is_kthxbai(framing::body(msg, places, HEAD)) {
         return read_kthxbai_frames(msg, places, subtree);
@@ -95,7 +95,7 @@ fn read_sent_frames(msg: &[u8], places: Places, subtree: &[u8]) -> Sent
 // The client's port for snapshots of its subtree: KTHXBAI, or else KVSYNC.
 pub fn read_sent(msg: &[u8], split: Split, subtree: &[u8]) -> Sent
     ensures { result ≡ sent_of (fields_at msg.now split.places)
-        (first_of (snapshot_by subtree.now msg.now split)) }
+        (first_refusal (snapshot_by subtree.now msg.now split)) }
 {
     let framing = split.framing;
     match check_framing(framing, FRAMES) {

@@ -1,7 +1,7 @@
 // The client's port for what is published: HUGZ, or else KVPUB.
 ghost use Rattle.std.specs.Prelude.{◌≡◌};
 ghost use Rattle.answers.specs.Refusals.{verdict};
-ghost use Rattle.base.specs.Checks.{first_of};
+ghost use Rattle.base.specs.Checks.{first_refusal};
 ghost use Rattle.client_ports.specs.Readings.{kvpub_of, published_of};
 ghost use Rattle.ports.specs.Bodies.{fields_at, subscriber_by};
 ghost use Rattle.ports.specs.Ports.{kvpub_checks, hugz_checks, published_checks};
@@ -27,7 +27,7 @@ pub enum Published {
 // The frames of a KVPUB.
 fn read_kvpub_frames(msg: &[u8], places: Places) -> Published
     ensures { result ≡ kvpub_of (fields_at msg.now places)
-        (first_of (kvpub_checks (fields_at msg.now places))) }
+        (first_refusal (kvpub_checks (fields_at msg.now places))) }
 {
     if !keys::is_key(framing::body(msg, places, HEAD)) {
         return Published::Refuse(Refusal::BadKey);
@@ -50,7 +50,7 @@ fn read_kvpub_frames(msg: &[u8], places: Places) -> Published
 
 // The frames of a HUGZ.
 fn check_hugz_frames(msg: &[u8], places: Places) -> Verdict
-    ensures { result ≡ verdict (first_of (hugz_checks (fields_at msg.now places))) }
+    ensures { result ≡ verdict (first_refusal (hugz_checks (fields_at msg.now places))) }
 {
     let Numbered::By(n) = sequence::read_sequence(framing::body(msg, places, SEQUENCE)) else {
         return Verdict::Refuse(Refusal::BadSequence);
@@ -72,7 +72,7 @@ fn check_hugz_frames(msg: &[u8], places: Places) -> Verdict
 // The frames of a HUGZ, or else of a KVPUB.
 fn read_published_frames(msg: &[u8], places: Places) -> Published
     ensures { result ≡ published_of (fields_at msg.now places)
-        (first_of (published_checks (fields_at msg.now places))) }
+        (first_refusal (published_checks (fields_at msg.now places))) }
 {
     if words::is_hugz(framing::body(msg, places, HEAD)) {
         match check_hugz_frames(msg, places) {
@@ -90,7 +90,7 @@ fn read_published_frames(msg: &[u8], places: Places) -> Published
 // The client's port for what is published: HUGZ, or else KVPUB.
 pub fn read_published(msg: &[u8], split: Split) -> Published
     ensures { result ≡ published_of (fields_at msg.now split.places)
-        (first_of (subscriber_by msg.now split)) }
+        (first_refusal (subscriber_by msg.now split)) }
 {
     let framing = split.framing;
     match check_framing(framing, FRAMES) {

@@ -3,7 +3,7 @@
 
 ghost use Rattle.std.specs.Prelude.{◌≡◌, replicate};
 ghost use Rattle.answers.specs.Refusals.{verdict};
-ghost use Rattle.base.specs.Checks.{first_of};
+ghost use Rattle.base.specs.Checks.{first_refusal};
 ghost use Rattle.client_calls.specs.Promises.{Began};
 ghost use Rattle.client_calls.specs.Start.{start_checks};
 ghost use Rattle.client_start.specs.Waiting.{waiting_header};
@@ -22,7 +22,7 @@ use numbers::tick::Tick;
 use row_cells::{CELL, LENGTHS, MAX_ROWS, RowBytes, RowLengths};
 
 fn check_start(wanted: &[u8], tick: Tick) -> Verdict
-    ensures { result ≡ verdict (first_of (start_checks wanted.now tick.0)) }
+    ensures { result ≡ verdict (first_refusal (start_checks wanted.now tick.0)) }
 {
     if !keys::is_subtree(wanted) {
         return Verdict::Refuse(Refusal::BadSubtree);

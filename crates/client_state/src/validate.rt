@@ -1,7 +1,7 @@
 // Whether a state that is handed in is well-formed, for any bits at all.
 ghost use Rattle.std.specs.Prelude.{◌≡◌};
 ghost use Rattle.answers.specs.Refusals.{verdict};
-ghost use Rattle.base.specs.Checks.{first_of};
+ghost use Rattle.base.specs.Checks.{first_refusal};
 ghost use Rattle.client_state.specs.IllFormed.{header_faults, subtree_faults, ill_forms};
 ghost use Rattle.client_state.specs.Views.{lent};
 ghost use Rattle.row_cells.specs.Faults.{GoodRows};
@@ -17,7 +17,7 @@ const SUBTREE_ROOM: u64 = KEY_ROOM as u64;
 
 // Whether number and clock are in range, and a client that waits is at number 0.
 fn check_header(header: Header) -> Verdict
-    ensures { result ≡ verdict (first_of (header_faults header)) }
+    ensures { result ≡ verdict (first_refusal (header_faults header)) }
 {
     let phase = header.phase;
     let number = header.number;
@@ -41,7 +41,7 @@ fn check_subtree<'a>(
     header: Header,
 ) -> Verdict
     requires { GoodRows header.count bytes.now lengths.now }
-    ensures { result ≡ verdict (first_of (subtree_faults
+    ensures { result ≡ verdict (first_refusal (subtree_faults
         (lent bytes.now lengths.now subtree.now header))) }
 {
     let length = header.subtree_length;
@@ -65,7 +65,7 @@ pub fn check_state<'a>(
     subtree: &'a SubtreeBytes,
     header: Header,
 ) -> Verdict
-    ensures { result ≡ verdict (first_of (ill_forms
+    ensures { result ≡ verdict (first_refusal (ill_forms
         (lent bytes.now lengths.now subtree.now header))) }
 {
     match row_checks::check_rows(bytes, lengths, header.count) {

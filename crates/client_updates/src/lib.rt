@@ -2,7 +2,7 @@
 #![tactic(auto)]
 
 ghost use Rattle.std.specs.Prelude.{[], ◌≡◌};
-ghost use Rattle.base.specs.Checks.{first_of};
+ghost use Rattle.base.specs.Checks.{first_refusal};
 ghost use Rattle.client_calls.specs.Effects.{hear, update_by};
 ghost use Rattle.client_effects.specs.Plans.{plan_unless, plan_in_phase, effect_plan};
 ghost use Rattle.client_state.specs.Views.{is_waiting};
@@ -22,7 +22,7 @@ use row_cells::{RowBytes, RowLengths};
 
 // HUGZ: its tick is looked at before the phase.
 pub fn plan_hugz(header: Header, tick: Tick) -> Plan
-    ensures { result ≡ plan_unless (first_of (tick_checks header.clock.0 tick.0))
+    ensures { result ≡ plan_unless (first_refusal (tick_checks header.clock.0 tick.0))
         (plan_in_phase (is_waiting header.phase) (effect_plan [] header (hear tick.0))) }
 {
     let phase = header.phase;

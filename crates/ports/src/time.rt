@@ -1,6 +1,6 @@
 // The tick that a call is told.
 ghost use Rattle.std.specs.Prelude.{◌≡◌};
-ghost use Rattle.base.specs.Checks.{first_of};
+ghost use Rattle.base.specs.Checks.{first_refusal};
 ghost use Rattle.answers.specs.Refusals.{verdict};
 ghost use Rattle.ports.specs.Ports.{tick_checks};
 
@@ -10,7 +10,7 @@ use numbers::tick::Tick;
 
 // Whether a tick is in range, and not below the last one.
 pub fn check_tick(last: Tick, tick: Tick) -> Verdict
-    ensures { result ≡ verdict (first_of (tick_checks last.0 tick.0)) }
+    ensures { result ≡ verdict (first_refusal (tick_checks last.0 tick.0)) }
 {
     if !tick::is_time(tick) {
         return Verdict::Refuse(Refusal::BadTick);

@@ -1,7 +1,7 @@
 // What an update may hold: key, UUID, properties and value.
 ghost use Rattle.std.specs.Prelude.{◌≡◌};
 ghost use Rattle.answers.specs.Refusals.{verdict};
-ghost use Rattle.base.specs.Checks.{first_of};
+ghost use Rattle.base.specs.Checks.{first_refusal};
 ghost use Rattle.ports.specs.Bodies.{update_of};
 ghost use Rattle.ports.specs.Ports.{payload_checks, update_checks};
 
@@ -19,7 +19,7 @@ pub enum Update {
 // UUID, properties and value of an update.
 pub fn read_payload(uuid: &[u8], properties: &[u8], value: &[u8]) -> Update
     ensures { result ≡ update_of properties.now
-        (first_of (payload_checks uuid.now properties.now value.now)) }
+        (first_refusal (payload_checks uuid.now properties.now value.now)) }
 {
     if !lengths::is_uuid(uuid) {
         return Update::Refuse(Refusal::BadUuid);
@@ -35,7 +35,7 @@ pub fn read_payload(uuid: &[u8], properties: &[u8], value: &[u8]) -> Update
 
 // The same, where the lifetime does not matter.
 pub fn check_payload(uuid: &[u8], properties: &[u8], value: &[u8]) -> Verdict
-    ensures { result ≡ verdict (first_of (payload_checks uuid.now properties.now
+    ensures { result ≡ verdict (first_refusal (payload_checks uuid.now properties.now
         value.now)) }
 {
     match read_payload(uuid, properties, value) {
@@ -46,7 +46,7 @@ pub fn check_payload(uuid: &[u8], properties: &[u8], value: &[u8]) -> Verdict
 
 // What a KVSET is written from: key, UUID, properties and value.
 pub fn check_update(key: &[u8], uuid: &[u8], properties: &[u8], value: &[u8]) -> Verdict
-    ensures { result ≡ verdict (first_of (update_checks key.now uuid.now properties.now
+    ensures { result ≡ verdict (first_refusal (update_checks key.now uuid.now properties.now
         value.now)) }
 {
     if !keys::is_key(key) {

@@ -1,7 +1,7 @@
 // The two value entries: the value frame of any five-frame message, and why there is none.
 ghost use Rattle.std.specs.Prelude.{◌≡◌};
 ghost use Rattle.answers.specs.Refusals.{verdict, verdict_number};
-ghost use Rattle.base.specs.Checks.{first_of};
+ghost use Rattle.base.specs.Checks.{first_refusal};
 ghost use Rattle.ports.specs.Ports.{value_port, value_in};
 
 use crate::frame_count::check_framing;
@@ -23,7 +23,7 @@ pub fn value_frame(msg: &[u8]) -> &[u8]
 
 // 0 where a message has five frames, and else the number of its refusal.
 pub fn value_refusal(msg: &[u8]) -> u64
-    ensures { result ≡ verdict_number (verdict (first_of (value_port msg.now))) }
+    ensures { result ≡ verdict_number (verdict (first_refusal (value_port msg.now))) }
 {
     let split = framing::split_message(msg);
     let framing = split.framing;

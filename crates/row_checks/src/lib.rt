@@ -4,7 +4,7 @@
 ghost use Rattle.std.specs.Prelude.{true, ◌&&◌, ◌≡◌, ◌≤◌};
 ghost use Rattle.answers.specs.Refusals.{verdict};
 ghost use Rattle.base.specs.Bytes.{every};
-ghost use Rattle.base.specs.Checks.{first_of};
+ghost use Rattle.base.specs.Checks.{first_refusal};
 ghost use Rattle.cells.specs.Cells.{cells};
 ghost use Rattle.keys.specs.Keys.{is_key, under};
 ghost use Rattle.row_cells.specs.Faults.{fitting, row_faults, GoodRows};
@@ -89,7 +89,7 @@ pub fn are_under<'a>(
 // Whether the first count rows are well-formed. Bytes after a key or a value, and rows from the count on, do not
 // matter.
 pub fn check_rows<'a>(bytes: &'a RowBytes, lengths: &'a RowLengths, count: usize) -> Verdict
-    ensures { result ≡ verdict (first_of (row_faults count bytes.now lengths.now)) }
+    ensures { result ≡ verdict (first_refusal (row_faults count bytes.now lengths.now)) }
 {
     if MAX_ROWS < count {
         return Verdict::Refuse(Refusal::IllFormed);

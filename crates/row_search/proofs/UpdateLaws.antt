@@ -31,10 +31,10 @@ module _ {change : Change} {n : ℕ} (f : Fits change n) {cell : Bytes} {lens by
   -- what a row that is stored must have
   pub good_change : (stores change ≡ true → fitting lens ≡ true) → (stores change ≡ true → is_key (cell_key cell lens) ≡ true) → rising (changed change (cell_key cell lens) (keys_of n bytes lengths)) ≡ true
       → GoodRows (count_after change n) bytes' lengths'
-  good_change fits is_key rises = record {
+  good_change fits keyed rises = record {
     few = (fits-most change n f).1;
     fit = rw c.of_lengths (every-changed fitting change lens (cells length_count n lengths) g.fit fits);
-    are_keys = rw (keys_after change n f c) (every-changed is_key change (cell_key cell lens) (keys_of n bytes lengths) g.are_keys is_key);
+    are_keys = rw (keys_after change n f c) (every-changed is_key change (cell_key cell lens) (keys_of n bytes lengths) g.are_keys keyed);
     rise = rw (keys_after change n f c) rises;
   }
 

@@ -1,7 +1,7 @@
 // The server's port for ICANHAZ, with the identity in front.
 ghost use Rattle.std.specs.Prelude.{◌≡◌};
 ghost use Rattle.answers.specs.Refusals.{verdict};
-ghost use Rattle.base.specs.Checks.{first_of};
+ghost use Rattle.base.specs.Checks.{first_refusal};
 ghost use Rattle.framing.specs.Splits.{body_in};
 ghost use Rattle.ports.specs.Bodies.{icanhaz_by};
 ghost use Rattle.ports.specs.Ports.{icanhaz_checks};
@@ -14,7 +14,7 @@ use ports::frame_count::check_framing;
 
 // The frames of an ICANHAZ behind its identity.
 fn check_icanhaz_frames(msg: &[u8], places: Places) -> Verdict
-    ensures { result ≡ verdict (first_of (icanhaz_checks (body_in msg.now places 0)
+    ensures { result ≡ verdict (first_refusal (icanhaz_checks (body_in msg.now places 0)
         (body_in msg.now places 1) (body_in msg.now places 2))) }
 {
     if !lengths::is_identity(framing::body(msg, places, IDENTITY)) {
@@ -31,7 +31,7 @@ fn check_icanhaz_frames(msg: &[u8], places: Places) -> Verdict
 
 // The server's port for ICANHAZ, with the identity in front.
 pub fn check_icanhaz(msg: &[u8], split: Split) -> Verdict
-    ensures { result ≡ verdict (first_of (icanhaz_by msg.now split)) }
+    ensures { result ≡ verdict (first_refusal (icanhaz_by msg.now split)) }
 {
     let framing = split.framing;
     match check_framing(framing, REQUEST_FRAMES) {

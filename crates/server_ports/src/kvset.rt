@@ -1,6 +1,6 @@
 // The server's port for KVSET.
 ghost use Rattle.std.specs.Prelude.{◌≡◌};
-ghost use Rattle.base.specs.Checks.{first_of};
+ghost use Rattle.base.specs.Checks.{first_refusal};
 ghost use Rattle.framing.specs.Splits.{body_in};
 ghost use Rattle.ports.specs.Bodies.{fields_at, kvset_by, update_of};
 ghost use Rattle.ports.specs.Ports.{kvset_checks};
@@ -16,7 +16,7 @@ use ports::update::{Update, read_payload};
 // The frames of a KVSET.
 fn read_kvset_frames(msg: &[u8], places: Places) -> Update
     ensures { result ≡ update_of (body_in msg.now places 3)
-        (first_of (kvset_checks (fields_at msg.now places))) }
+        (first_refusal (kvset_checks (fields_at msg.now places))) }
 {
     if !keys::is_key(framing::body(msg, places, HEAD)) {
         return Update::Refuse(Refusal::BadKey);
@@ -34,7 +34,7 @@ fn read_kvset_frames(msg: &[u8], places: Places) -> Update
 // The server's port for KVSET: the lifetime that an update asks for.
 pub fn read_kvset(msg: &[u8], split: Split) -> Update
     ensures { result ≡ update_of (body_in msg.now split.places 3)
-        (first_of (kvset_by msg.now split)) }
+        (first_refusal (kvset_by msg.now split)) }
 {
     let framing = split.framing;
     match check_framing(framing, FRAMES) {

@@ -1,7 +1,7 @@
 // Whether an ICANHAZ is granted. These functions only read.
 ghost use Rattle.std.specs.Prelude.{◌≡◌, ◌≤◌, length};
 ghost use Rattle.answers.specs.Refusals.{verdict};
-ghost use Rattle.base.specs.Checks.{first_of};
+ghost use Rattle.base.specs.Checks.{first_refusal};
 ghost use Rattle.framing.specs.Splits.{body_in};
 ghost use Rattle.keys.specs.Keys.{key_room};
 ghost use Rattle.row_cells.specs.Faults.{GoodRows};
@@ -27,7 +27,7 @@ fn check_room<'a>(
 ) -> Verdict
     requires { GoodRows count bytes.now lengths.now
         × ((length (body_in msg.now places 0) ≤ 255) × (length (body_in msg.now places 2) ≤ key_room)) }
-    ensures { result ≡ verdict (first_of (room_checks
+    ensures { result ≡ verdict (first_refusal (room_checks
         (length_rows count bytes.now lengths.now)
         (body_in msg.now places 0) (body_in msg.now places 2) room)) }
 {
@@ -49,7 +49,7 @@ pub(crate) fn check_request<'a>(
     split: Split,
     room: usize,
 ) -> Verdict
-    ensures { result ≡ verdict (first_of (request_checks
+    ensures { result ≡ verdict (first_refusal (request_checks
         (lent bytes.now lengths.now stamps.now header)
         msg.now split room)) }
 {

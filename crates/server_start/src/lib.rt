@@ -3,7 +3,7 @@
 
 ghost use Rattle.std.specs.Prelude.{◌≡◌, replicate};
 ghost use Rattle.answers.specs.Refusals.{verdict};
-ghost use Rattle.base.specs.Checks.{first_of};
+ghost use Rattle.base.specs.Checks.{first_refusal};
 ghost use Rattle.row_cells.specs.Sizes.{byte_count, word_count, length_count};
 ghost use Rattle.server_calls.specs.Promises.{Began};
 ghost use Rattle.server_calls.specs.Start.{start_checks};
@@ -22,7 +22,7 @@ use server_calls::Outcome;
 use server_state::{Header, RowStamps, STAMPS};
 
 fn check_start(number: Sequence, tick: Tick) -> Verdict
-    ensures { result ≡ verdict (first_of (start_checks number.0 tick.0)) }
+    ensures { result ≡ verdict (first_refusal (start_checks number.0 tick.0)) }
 {
     if !sequence::is_kept(number) {
         return Verdict::Refuse(Refusal::BadSequence);

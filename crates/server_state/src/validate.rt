@@ -2,7 +2,7 @@
 ghost use Rattle.std.specs.Prelude.{◌≡◌, ◌≤◌};
 ghost use Rattle.answers.specs.Refusals.{verdict};
 ghost use Rattle.base.specs.Bytes.{every};
-ghost use Rattle.base.specs.Checks.{first_of};
+ghost use Rattle.base.specs.Checks.{first_refusal};
 ghost use Rattle.cells.specs.Cells.{cells};
 ghost use Rattle.row_cells.specs.Sizes.{max_rows};
 ghost use Rattle.server_state.specs.IllFormed.{stamped, stamp_faults, ill_forms};
@@ -33,7 +33,7 @@ fn are_stamped(stamps: &RowStamps, count: usize, number: Sequence) -> bool
 // Whether the stamps of the rows, of which there are not too many, and the header are in range.
 fn check_stamps(stamps: &RowStamps, header: Header) -> Verdict
     requires { header.count ≤ max_rows }
-    ensures { result ≡ verdict (first_of (stamp_faults stamps.now header)) }
+    ensures { result ≡ verdict (first_refusal (stamp_faults stamps.now header)) }
 {
     let number = header.number;
     let last_tick = header.last_tick;
@@ -60,7 +60,7 @@ pub fn check_state<'a>(
     stamps: &'a RowStamps,
     header: Header,
 ) -> Verdict
-    ensures { result ≡ verdict (first_of (ill_forms
+    ensures { result ≡ verdict (first_refusal (ill_forms
         (lent bytes.now lengths.now stamps.now header))) }
 {
     match row_checks::check_rows(bytes, lengths, header.count) {

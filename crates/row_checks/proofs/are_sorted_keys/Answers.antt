@@ -1,0 +1,74 @@
+-- `row_checks::are_sorted_keys` meets its contract: the keys passed are keys and rise, so all do if the others do. Assumes nothing.
+use Prim.Native.Nat.{◌≤◌, ◌-◌}
+use mathlib.Core.Path.{ap}
+use mathlib.Core.Bool.{not}
+use native.Mathlib.Omega.{arith}
+use mathlib.Core.Bool.{◌&&◌}
+use mathlib.Core.List.{List, []}
+use mathlib.Core.Path.{◌≡◌, refl, sym, ◌∙◌}
+use lib.ListN.{length, get_or}
+use borrow.Author.Rules.{rules}
+use borrow.Author.Tests.{not-true, not-false}
+use Rattle.base.specs.Bytes.{Bytes, every}
+use Rattle.keys.specs.Keys.{is_key}
+use Rattle.row_cells.proofs.TextLaws.{key_is, keys_long, key-most_at}
+use Rattle.row_cells.specs.Texts.{keys_of}
+use Rattle.row_checks.proofs.PassLaws.{Passed, sorted_start, no_key, not_above, sorted_turn, sorted_done}
+use Rattle.rows.specs.Rows.{rising}
+use Rattle.row_checks.proofs.are_sorted_keys.Goals as goal
+use Rattle.row_checks.proofs.are_sorted_keys.Goals.{After-key_at-key, Start}
+
+abbrev keys : (c : Start) → List Bytes
+keys s = keys_of s.args.count s.args.bytes.now s.args.lengths.now
+
+many : (s : Start) → length (keys s) ≡ s.args.count
+many s = keys_long s.args.count s.args.bytes.now s.args.lengths.now
+
+own : (c : After-key_at-key) → get_or (keys ((goal.at.After-key_at-key c).Start)) c.loop-i.i [] ≡ c.key_at-key.result.now
+own c =
+    let a = c.args in
+    key_is a.count a.bytes.now a.lengths.now c.loop-i.i (omega arith) ∙ sym c.key_at-key.ensures
+
+pub loop-i-init : goal.loop-i-init
+loop-i-init c = (omega arith, rw c.front-before.ensures (sorted_start (keys ((goal.at.loop-i-init c).Start))))
+
+pub key_at-key-requires : goal.key_at-key-requires
+key_at-key-requires c =
+    let s = (goal.at.key_at-key-requires c).Start in
+    (omega arith, key-most_at s.args.count s.args.lengths.now s.requires.1 c.loop-i.i (omega arith))
+
+pub returns-then-not-is_key : goal.returns-then-not-is_key
+returns-then-not-is_key c =
+    let l = c.loop-i in
+    let n = many ((goal.at.returns-then-not-is_key c).Start) in
+    no_key (keys ((goal.at.returns-then-not-is_key c).Start)) l.before.now l.i _ l.invariant.1 (own ((goal.at.returns-then-not-is_key c).After-key_at-key)) (omega arith) (sym c.is_key.ensures ∙ not-true _ (ap not c.if-not-is_key.true))
+
+pub overflow_add-i : goal.overflow_add-i
+overflow_add-i c = omega arith
+
+pub loop-i-smaller : goal.loop-i-smaller
+loop-i-smaller c = omega arith
+
+pub loop-i-preserved : goal.loop-i-preserved
+loop-i-preserved c =
+    let l = c.loop-i in
+    let n = many ((goal.at.loop-i-preserved c).Start) in
+    (omega arith, sorted_turn (keys ((goal.at.loop-i-preserved c).Start)) l.before.now l.i _ l.invariant.1 (own ((goal.at.loop-i-preserved c).After-key_at-key)) (omega arith) (sym c.is_key.ensures ∙ not-false _ (ap not c.if-not-is_key.false)) (sym c.compare.ensures ∙ c.in-Less.is))
+
+pub returns-in-Equal : goal.returns-in-Equal
+returns-in-Equal c =
+    let l = c.loop-i in
+    let n = many ((goal.at.returns-in-Equal c).Start) in
+    not_above (keys ((goal.at.returns-in-Equal c).Start)) l.before.now l.i _ l.invariant.1 (own ((goal.at.returns-in-Equal c).After-key_at-key)) (omega arith) _ (sym c.compare.ensures ∙ c.in-Equal.is) refl
+
+pub returns-in-Greater : goal.returns-in-Greater
+returns-in-Greater c =
+    let l = c.loop-i in
+    let n = many ((goal.at.returns-in-Greater c).Start) in
+    not_above (keys ((goal.at.returns-in-Greater c).Start)) l.before.now l.i _ l.invariant.1 (own ((goal.at.returns-in-Greater c).After-key_at-key)) (omega arith) _ (sym c.compare.ensures ∙ c.in-Greater.is) refl
+
+pub returns : goal.returns
+returns c =
+    let l = c.loop-i in
+    let n = many ((goal.at.returns c).Start) in
+    sorted_done (keys ((goal.at.returns c).Start)) l.before.now l.i _ l.invariant.1 (omega arith)

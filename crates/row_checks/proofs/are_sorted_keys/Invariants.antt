@@ -1,0 +1,23 @@
+-- `row_checks::are_sorted_keys` meets its contract: the keys passed are keys and rise, so all do if the others do. Assumes nothing.
+use Prim.Native.Nat.{◌≤◌, ◌-◌}
+use native.Mathlib.Omega.{arith}
+use mathlib.Core.Bool.{◌&&◌}
+use mathlib.Core.List.{List, []}
+use mathlib.Core.Path.{◌≡◌, refl, sym, ◌∙◌}
+use lib.ListN.{length, get_or}
+use borrow.Author.Rules.{rules}
+use borrow.Author.Tests.{not-true, not-false}
+use Rattle.base.specs.Bytes.{Bytes, every}
+use Rattle.keys.specs.Keys.{is_key}
+use Rattle.row_cells.proofs.TextLaws.{key_is, keys_long, key-most_at}
+use Rattle.row_cells.specs.Texts.{keys_of}
+use Rattle.row_checks.proofs.PassLaws.{Passed, sorted_start, no_key, not_above, sorted_turn, sorted_done}
+use Rattle.rows.specs.Rows.{rising}
+use Rattle.row_checks.proofs.are_sorted_keys.Given as goal
+
+abbrev pub invariant-loop-i : goal.invariant-loop-i
+invariant-loop-i l =
+    (l.i ≤ l.count) × Passed (every is_key (keys_of l.count l.bytes l.lengths) && rising (keys_of l.count l.bytes l.lengths)) (keys_of l.count l.bytes l.lengths) l.before l.i
+
+abbrev pub decreases-loop-i : goal.decreases-loop-i
+decreases-loop-i l = l.count - l.i
