@@ -1,0 +1,43 @@
+-- `server_deeds::plan_expiry` meets its contract: a number, and then the output. Assumes nothing.
+use native.Mathlib.Omega.{arith}
+use borrow.Author.Rules.{rules}
+use Rattle.base.specs.Bytes.{Bytes}
+use Rattle.numbers.proofs.SequenceLaws.{next_none, next_some}
+use Rattle.row_cells.proofs.TextLaws.{key-most_at, row-key-short}
+use Rattle.row_cells.specs.Texts.{row_key}
+use Rattle.server_deeds.proofs.PlanLaws.{exhausted, too_short, goes}
+use Rattle.server_deeds.proofs.plan_expiry.Goals as goal
+use Rattle.server_deeds.proofs.plan_expiry.Goals.{Start}
+
+abbrev key : (c : Start) → Bytes
+key s = row_key s.args.i s.args.bytes.now s.args.lengths.now
+
+pub returns-in_default : goal.returns-in_default
+returns-in_default c =
+    let a = c.args in
+    exhausted a.header a.tick.0 a.i a.room (key ((goal.at.returns-in_default c).Start)) c.requires.1.1 (next_none _ c.next_number.ensures c.in_default.is)
+
+pub key_at-key-requires : goal.key_at-key-requires
+key_at-key-requires c =
+    let s = (goal.at.key_at-key-requires c).Start in
+    let few = s.requires.0.few in
+    let low = s.requires.1.0 in
+    (omega arith, key-most_at s.args.header.count s.args.lengths.now s.requires.0.fit s.args.i low)
+
+pub returns-then-room-message_length : goal.returns-then-room-message_length
+returns-then-room-message_length c =
+    let a = c.args in
+    let next = next_some _ c.next_number.ensures c.in-Next.is in
+    too_short a.header a.tick.0 a.i a.room (key ((goal.at.returns-then-room-message_length c).Start)) next.0 c.key_at-key.ensures c.message_length.ensures c.if-room-message_length.true
+
+pub overflow_sub-after : goal.overflow_sub-after
+overflow_sub-after c =
+    let low = c.requires.1.0 in
+    omega arith
+
+pub returns : goal.returns
+returns c =
+    let a = c.args in
+    let next = next_some _ c.next_number.ensures c.in-Next.is in
+    goes a.header a.tick.0 a.i a.room (key ((goal.at.returns c).Start)) next.0 c.key_at-key.ensures c.message_length.ensures
+    (row-key-short a.i a.bytes.now a.lengths.now (key-most_at a.header.count a.lengths.now c.requires.0.fit a.i c.requires.1.0)) c.if-room-message_length.false next.1
