@@ -9,12 +9,13 @@ use Rattle.client_start.proofs.start_lent.Goals as goal
 pub returns-in-Refuse : goal.returns-in-Refuse
 returns-in-Refuse c =
     let a = c.args in
-    let h = c.refused.ensures.0 ∙ c.waiting.ensures in (
+    let h = c.refused.ensures.0 ∙ c.waiting.ensures in record {
+      begins =
       not_begun a.wanted.now a.tick.0 _ _ _ (sym c.in-Refuse.is ∙ c.check_start.ensures)
           (record { header = h; subtree_is = rw h refl })
-          (c.refused.ensures.1 ∙ rw c.waiting.ensures),
-      (refl, refl),
-    )
+          (c.refused.ensures.1 ∙ rw c.waiting.ensures);
+      zeroed = (refl, refl);
+    }
 
 pub returns-in-Accept : goal.returns-in-Accept
 returns-in-Accept c =
@@ -22,4 +23,4 @@ returns-in-Accept c =
     let e = sym c.in-Accept.is ∙ c.check_start.ensures in
     let p = placed a.wanted.now a.tick.0 e _ refl c.put_bytes-length.ensures in
     let h = c.accepted.ensures.0 ∙ c.waiting-in-Accept.ensures in
-    (begun a.wanted.now a.tick.0 _ _ e (record { header = h ∙ ap (waiting_header a.tick.0) p.0; subtree_is = rw h p.1 }) c.accepted.ensures.1, (refl, refl))
+    record { begins = begun a.wanted.now a.tick.0 _ _ e (record { header = h ∙ ap (waiting_header a.tick.0) p.0; subtree_is = rw h p.1 }) c.accepted.ensures.1; zeroed = (refl, refl) }

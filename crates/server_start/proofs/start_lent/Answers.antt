@@ -5,7 +5,13 @@ use Rattle.server_start.proofs.StartLaws.{start-refused, start-accepted}
 use Rattle.server_start.proofs.start_lent.Goals as goal
 
 pub returns-in-Refuse : goal.returns-in-Refuse
-returns-in-Refuse c = (start-refused _ _ _ c.args.number.0 c.args.tick.0 c.check_start.ensures c.in-Refuse.is c.first_header.ensures c.without_output.ensures, (refl, refl, refl))
+returns-in-Refuse c = record {
+  begins = start-refused _ _ _ c.args.number.0 c.args.tick.0 c.check_start.ensures c.in-Refuse.is c.first_header.ensures c.without_output.ensures;
+  zeroed = (refl, refl, refl);
+}
 
 pub returns-in-Accept : goal.returns-in-Accept
-returns-in-Accept c = (start-accepted _ _ _ c.args.number.0 c.args.tick.0 c.check_start.ensures c.in-Accept.is c.first_header-in-Accept.ensures c.without_output-in-Accept.ensures, (refl, refl, refl))
+returns-in-Accept c = record {
+  begins = start-accepted _ _ _ c.args.number.0 c.args.tick.0 c.check_start.ensures c.in-Accept.is c.first_header-in-Accept.ensures c.without_output-in-Accept.ensures;
+  zeroed = (refl, refl, refl);
+}

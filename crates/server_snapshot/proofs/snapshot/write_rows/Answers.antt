@@ -16,6 +16,7 @@ use Rattle.server_state.proofs.StateLaws.{row_count}
 use Rattle.server_state.specs.Views.{lent, row_list}
 use Rattle.server_state.specs.declared.Server.{Server}
 use Rattle.server_snapshot.proofs.snapshot.write_rows.Goals as goal
+use Rattle.server_snapshot.proofs.snapshot.write_rows.Goals.{then-is_under, else-is_under}
 use Rattle.server_snapshot.proofs.snapshot.write_rows.Goals.{After-loop-i, Start}
 
 abbrev state : (c : Start) → Server
@@ -70,10 +71,10 @@ loop-i-preserved c =
     let k = c.key_at-key.ensures in
     let t = c.loop-i-test.true in (
       omega arith,
-      ⊎_elim
-          (λ w. row_in s.args.identity.now s.args.subtree.now s.args.out.now (row_list (state s)) s.requires.1 l.i _ _ (entry_row (state s) l.i t k w.1.ensures) l.invariant.1 (sym u ∙ w.0.taken) (sync_as s.args.identity.now _ _ w.3.ensures w.4.ensures) w.7 w.8)
-          (λ w. row_out s.args.identity.now s.args.subtree.now s.args.out.now (row_list (state s)) s.requires.1 l.i _ _ (entry_row (state s) l.i t k refl) l.invariant.1 (sym u ∙ w.0.left) w.1 w.2)
-          c.if-is_under.branch,
+      elim c.if-is_under.branch [
+        | then-is_under w ↦ row_in s.args.identity.now s.args.subtree.now s.args.out.now (row_list (state s)) s.requires.1 l.i _ _ (entry_row (state s) l.i t k w.value_at-value.ensures) l.invariant.1 (sym u ∙ w.if-is_under.true) (sync_as s.args.identity.now _ _ w.number_at.ensures w.write_row-at.ensures) w.out-is w.at-is
+        | else-is_under w ↦ row_out s.args.identity.now s.args.subtree.now s.args.out.now (row_list (state s)) s.requires.1 l.i _ _ (entry_row (state s) l.i t k refl) l.invariant.1 (sym u ∙ w.if-is_under.false) w.out-is w.at-is
+      ],
     )
 
 pub shape_of-out : goal.shape_of-out
