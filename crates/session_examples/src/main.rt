@@ -27,7 +27,7 @@ mod studio;
 use std::io;
 use std::io::Read;
 
-// How many bytes of standard input are read.
+// At most so many bytes of standard input are read.
 const LINES: u64 = 65536;
 
 fn main(rt: HostRuntime) -> io::Result<()> {

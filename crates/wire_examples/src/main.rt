@@ -18,7 +18,7 @@ use numbers::sequence::Sequence;
 use std::io;
 use std::io::Read;
 
-// How many bytes of standard input are read.
+// At most so many bytes of standard input are read.
 const LINES: u64 = 65536;
 
 fn main(rt: HostRuntime) -> io::Result<()> {
