@@ -8,7 +8,7 @@ use Rattle.server_tick.proofs.expire_row.Goals as goal
 
 pub key_at-key-requires : goal.key_at-key-requires
 key_at-key-requires c =
-    let s = c.before.before.before in
+    let s = c in
     let few = s.requires.0.few in
     let low = s.requires.1 in
     (omega arith, key-most_at s.args.count s.args.lengths.now s.requires.0.fit s.args.i low)

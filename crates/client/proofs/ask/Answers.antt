@@ -1,0 +1,6 @@
+-- `client::ask` meets its contract: it is that of the entry on lent arrays. Assumes nothing.
+use borrow.Author.Rules.{rules}
+use Rattle.client.proofs.ask.Goals as goal
+
+pub returns : goal.returns
+returns c = c.ask_lent.ensures

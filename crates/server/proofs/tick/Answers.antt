@@ -1,0 +1,6 @@
+-- `server::tick` meets its contract: it is that of the entry on lent arrays. Assumes nothing.
+use borrow.Author.Rules.{rules}
+use Rattle.server.proofs.tick.Goals as goal
+
+pub returns : goal.returns
+returns c = c.tick_lent-r.ensures
