@@ -1,5 +1,5 @@
 // Lines of text, numbers, bytes and answers on standard output, for the programs that show what the other crates do.
-// A contract cannot speak of what is written to a file descriptor, so the functions have none.
+// A contract cannot speak of what is written to standard output, so the functions have none.
 #![tactic(auto)]
 
 mod line;

@@ -1,59 +1,58 @@
 // Lines, and parts of lines.
-use base::{bytes, octets};
-
-const STDOUT: i32 = 1;
+use base::bytes;
+use std::io;
 
 // A part of a line, as it is.
-pub fn text(t: &[u8]) {
-    io::write_all(STDOUT, t);
+pub fn text(rt: &impl Print, t: &[u8]) -> io::Result<()> {
+    rt.write_all(t)
 }
 
 // A part of a line: a number in decimal behind a label.
-pub fn number(label: &[u8], n: u64) {
-    text(label);
-    io::print_decimal(STDOUT, n);
+pub fn number(rt: &impl Print, label: &[u8], n: u64) -> io::Result<()> {
+    text(rt, label)?;
+    print!(rt; "{n}")
 }
 
 // A line with a heading, and an empty line in front of it.
-pub fn heading(t: &[u8]) {
-    text(b"\n# ");
-    text(t);
-    text(b"\n");
+pub fn heading(rt: &impl Print, t: &[u8]) -> io::Result<()> {
+    text(rt, b"\n# ")?;
+    text(rt, t)?;
+    text(rt, b"\n")
 }
 
-fn octet(b: u8) {
-    text(b" ");
-    io::print_hex(STDOUT, octets::wide(b), 2);
+fn octet(rt: &impl Print, b: u8) -> io::Result<()> {
+    print!(rt; " {b:02x}")
 }
 
-fn each(b: &[u8]) {
+fn each(rt: &impl Print, b: &[u8]) -> io::Result<()> {
     let mut i = 0;
     while i < b.len() {
-        octet(b[i]);
+        octet(rt, b[i])?;
         i += 1;
     }
+    Ok(())
 }
 
 // A line with what some bytes are: how many, and each in hexadecimal.
-pub fn hex(label: &[u8], b: &[u8]) {
-    text(label);
-    number(b", ", b.len() as u64);
-    text(b" bytes:");
-    each(b);
-    text(b"\n");
+pub fn hex(rt: &impl Print, label: &[u8], b: &[u8]) -> io::Result<()> {
+    text(rt, label)?;
+    number(rt, b", ", b.len() as u64)?;
+    text(rt, b" bytes:")?;
+    each(rt, b)?;
+    text(rt, b"\n")
 }
 
 // A line that says whether something is as expected.
-pub fn expected(label: &[u8], good: bool) {
-    text(label);
+pub fn expected(rt: &impl Print, label: &[u8], good: bool) -> io::Result<()> {
+    text(rt, label)?;
     if good {
-        text(b": as expected\n");
+        text(rt, b": as expected\n")
     } else {
-        text(b": DIFFERENT\n");
+        text(rt, b": DIFFERENT\n")
     }
 }
 
 // A line that holds some bytes against the ones expected.
-pub fn compare(label: &[u8], got: &[u8], want: &[u8]) {
-    expected(label, bytes::same_bytes(got, want));
+pub fn compare(rt: &impl Print, label: &[u8], got: &[u8], want: &[u8]) -> io::Result<()> {
+    expected(rt, label, bytes::same_bytes(got, want))
 }

@@ -24,8 +24,14 @@ mod desk;
 mod session;
 mod studio;
 
-fn main() {
-    let mut room = io::large_buffer();
-    let n = io::read_full(0, &mut room);
-    session::run(&room[..n]);
+use std::io;
+use std::io::Read;
+
+// At most so many bytes of standard input are read.
+const LINES: u64 = 65536;
+
+fn main(rt: HostRuntime) -> io::Result<()> {
+    let mut lines = Vec::new(rt.alloc());
+    rt.reader().take(LINES).read_to_end(&mut lines)?;
+    session::run(&rt, &lines)
 }

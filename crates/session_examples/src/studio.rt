@@ -5,6 +5,7 @@ use client_state::Client;
 use numbers::sequence::Sequence;
 use numbers::tick::Tick;
 use server_state::Server;
+use std::io;
 
 #[derive(Clone, Copy)]
 pub(crate) struct Studio {
@@ -48,61 +49,66 @@ pub(crate) fn cut(out: &mut [u8], room: usize) -> &mut [u8] {
 }
 
 // The server at a number and a tick.
-pub(crate) fn begin_server(number: u64, at: u64) -> Server {
-    print::number(b"the server starts at number ", number);
-    print::number(b" and tick ", at);
+pub(crate) fn begin_server(rt: &impl Print, number: u64, at: u64) -> io::Result<Server> {
+    print::number(rt, b"the server starts at number ", number)?;
+    print::number(rt, b" and tick ", at)?;
     let r = server::start(Sequence(number), Tick(at));
-    print::answer(r.answer);
-    r.state
+    print::answer(rt, r.answer)?;
+    Ok(r.state)
 }
 
 // What the server publishes goes to both desks.
-fn publish(mut s: Studio, msg: &[u8], at: u64) -> Studio {
+fn publish(rt: &impl Print, mut s: Studio, msg: &[u8], at: u64) -> io::Result<Studio> {
     if msg.len() == 0 {
-        return s;
+        return Ok(s);
     }
-    print::hex(b"  it publishes", msg);
+    print::hex(rt, b"  it publishes", msg)?;
     let seven = s.seven;
     let seventy = s.seventy;
-    let a = desk::follow(seven, b"7", msg, at);
-    let b = desk::follow(seventy, b"70", msg, at);
+    let a = desk::follow(rt, seven, b"7", msg, at)?;
+    let b = desk::follow(rt, seventy, b"70", msg, at)?;
     s.seven = a;
     s.seventy = b;
-    s
+    Ok(s)
 }
 
 // A KVSET comes to the server.
-pub(crate) fn set(mut s: Studio, msg: &[u8], at: u64) -> Studio {
+pub(crate) fn set(rt: &impl Print, mut s: Studio, msg: &[u8], at: u64) -> io::Result<Studio> {
     let mut out = [0; 521];
     let room = s.room;
     let server = s.server;
-    print::number(b"  at the server, tick ", at);
+    print::number(rt, b"  at the server, tick ", at)?;
     let r = server::kvset(server, msg, Tick(at), cut(&mut out, room));
     let a = r.answer;
     let after = r.state;
-    print::answer(a);
+    print::answer(rt, a)?;
     s.server = after;
-    publish(s, bytes::front(&out, a.written), at)
+    publish(rt, s, bytes::front(&out, a.written), at)
 }
 
 // The server is told the time.
-pub(crate) fn tell(mut s: Studio, at: u64) -> Studio {
+pub(crate) fn tell(rt: &impl Print, mut s: Studio, at: u64) -> io::Result<Studio> {
     let mut out = [0; 521];
     let room = s.room;
     let server = s.server;
-    print::number(b"the server is told tick ", at);
+    print::number(rt, b"the server is told tick ", at)?;
     let r = server::tick(server, Tick(at), cut(&mut out, room));
     let a = r.answer;
     let after = r.state;
-    print::answer(a);
+    print::answer(rt, a)?;
     s.server = after;
-    publish(s, bytes::front(&out, a.written), at)
+    publish(rt, s, bytes::front(&out, a.written), at)
 }
 
 // The server's answer to a request. It gives the length of the answer.
-pub(crate) fn answer(s: Server, request: &[u8], out: &mut [u8]) -> usize {
-    print::text(b"  at the server");
+pub(crate) fn answer(
+    rt: &impl Print,
+    s: Server,
+    request: &[u8],
+    out: &mut [u8],
+) -> io::Result<usize> {
+    print::text(rt, b"  at the server")?;
     let a = server::icanhaz(s, request, out);
-    print::answer(a);
-    a.written
+    print::answer(rt, a)?;
+    Ok(a.written)
 }

@@ -4,16 +4,18 @@ use base::{bytes, octets, output};
 use parts::build;
 use parts::build::Built;
 use script::{line, text};
+use std::io;
 
-pub(crate) fn build_line(s: &[u8]) {
+pub(crate) fn build_line(rt: &impl Print, s: &[u8]) -> io::Result<()> {
     let mut buffer = [9; 1024];
     let room = line::number(line::field(s, 1)) as usize;
     let built = put_within(&mut buffer, room, line::behind_bars(s, 2));
-    stage(built);
+    stage(rt, built)?;
     judge::judge(
+        rt,
         line::field(s, 0),
         bytes::front(&buffer, build::length_of(built)),
-    );
+    )
 }
 
 // Only the first so many bytes of a buffer are used.
@@ -24,13 +26,13 @@ fn put_within(buffer: &mut [u8], room: usize, s: &[u8]) -> Built {
     put_parts(&mut buffer[..room], s)
 }
 
-fn stage(built: Built) {
+fn stage(rt: &impl Print, built: Built) -> io::Result<()> {
     match built {
-        Built::Open(n) => print::number(b"open, bytes ", n as u64),
-        Built::Whole(n) => print::number(b"whole, bytes ", n as u64),
-        Built::Void => print::text(b"void"),
+        Built::Open(n) => print::number(rt, b"open, bytes ", n as u64)?,
+        Built::Whole(n) => print::number(rt, b"whole, bytes ", n as u64)?,
+        Built::Void => print::text(rt, b"void")?,
     }
-    print::text(b"; ");
+    print::text(rt, b"; ")
 }
 
 fn put_parts(buffer: &mut [u8], s: &[u8]) -> Built {

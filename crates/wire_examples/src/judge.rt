@@ -15,74 +15,76 @@ use ports::value;
 use properties::read::{Lifetime, Properties};
 use script::{message, text};
 use server_ports::{icanhaz, kvset};
+use std::io;
 
 // A line for each line.
-pub(crate) fn judge_lines(s: &[u8]) {
+pub(crate) fn judge_lines(rt: &impl Print, s: &[u8]) -> io::Result<()> {
     let mut i = 0;
     while i < s.len() {
         let rest = &s[i..];
         let end = text::place(rest, b'\n');
-        judge_line(bytes::front(rest, end));
+        judge_line(rt, bytes::front(rest, end))?;
         i = i + end + 1;
     }
+    Ok(())
 }
 
-fn judge_line(line: &[u8]) {
+fn judge_line(rt: &impl Print, line: &[u8]) -> io::Result<()> {
     if line.len() == 0 {
-        return;
+        return Ok(());
     }
     let kind = line[0];
     match kind {
-        b'&' => build::build_line(bytes::behind(line, 2)),
-        b'=' => judge_bytes(bytes::behind(line, 2)),
-        b'+' => judge_frames(bytes::behind(line, 2)),
-        _ => print::heading(bytes::behind(line, 2)),
+        b'&' => build::build_line(rt, bytes::behind(line, 2)),
+        b'=' => judge_bytes(rt, bytes::behind(line, 2)),
+        b'+' => judge_frames(rt, bytes::behind(line, 2)),
+        _ => print::heading(rt, bytes::behind(line, 2)),
     }
 }
 
 // The bytes of a message behind a label.
-fn judge_bytes(line: &[u8]) {
+fn judge_bytes(rt: &impl Print, line: &[u8]) -> io::Result<()> {
     let mut msg = [0; 2048];
     let bar = text::place(line, b'|');
     let n = text::decode(bytes::behind(line, bar + 1), &mut msg);
-    judge(bytes::front(line, bar), bytes::front(&msg, n));
+    judge(rt, bytes::front(line, bar), bytes::front(&msg, n))
 }
 
 // The frames of a message behind a label.
-fn judge_frames(line: &[u8]) {
+fn judge_frames(rt: &impl Print, line: &[u8]) -> io::Result<()> {
     let mut msg = [0; 2048];
     let bar = text::place(line, b'|');
     let n = message::write_frames(bytes::behind(line, bar + 1), &mut msg);
-    judge(bytes::front(line, bar), bytes::front(&msg, n));
+    judge(rt, bytes::front(line, bar), bytes::front(&msg, n))
 }
 
 // What the value entries and the ports make of a message: the number of the refusal, or 0. Then its frames.
-pub(crate) fn judge(label: &[u8], msg: &[u8]) {
-    print::text(label);
-    print::number(b": value entries ", value::value_refusal(msg));
-    print::number(b" of ", value::value_frame(msg).len() as u64);
+pub(crate) fn judge(rt: &impl Print, label: &[u8], msg: &[u8]) -> io::Result<()> {
+    print::text(rt, label)?;
+    print::number(rt, b": value entries ", value::value_refusal(msg))?;
+    print::number(rt, b" of ", value::value_frame(msg).len() as u64)?;
     let split = framing::split_message(msg);
-    verdict(b", kvset ", at_kvset(msg, split));
-    verdict(b", icanhaz ", icanhaz::check_icanhaz(msg, split));
-    verdict(b", snapshot ", at_snapshot(msg, split));
-    verdict(b", subscriber ", at_subscriber(msg, split));
-    lifetime(framing::body(msg, split.places, PROPERTIES));
-    print::text(b"; frames");
-    list_frames(msg);
-    print::text(b"\n");
+    verdict(rt, b", kvset ", at_kvset(msg, split))?;
+    verdict(rt, b", icanhaz ", icanhaz::check_icanhaz(msg, split))?;
+    verdict(rt, b", snapshot ", at_snapshot(msg, split))?;
+    verdict(rt, b", subscriber ", at_subscriber(msg, split))?;
+    lifetime(rt, framing::body(msg, split.places, PROPERTIES))?;
+    print::text(rt, b"; frames")?;
+    list_frames(rt, msg)?;
+    print::text(rt, b"\n")
 }
 
 // Each frame by the length of its body, with a plus sign if another one follows.
-fn list_frames(s: &[u8]) {
+fn list_frames(rt: &impl Print, s: &[u8]) -> io::Result<()> {
     let mut at = 0;
     let mut inside = false;
     loop {
         let Taken::Body { start, len, more } = walk::next_frame(s, at, inside) else {
-            return;
+            return Ok(());
         };
-        print::number(b" ", len as u64);
+        print::number(rt, b" ", len as u64)?;
         if more {
-            print::text(b"+");
+            print::text(rt, b"+")?;
         }
         at = start + len;
         inside = more;
@@ -112,15 +114,16 @@ fn at_subscriber(msg: &[u8], split: Split) -> Verdict {
     }
 }
 
-fn verdict(label: &[u8], v: Verdict) {
-    print::number(label, refusal::verdict_number(v));
+fn verdict(rt: &impl Print, label: &[u8], v: Verdict) -> io::Result<()> {
+    print::number(rt, label, refusal::verdict_number(v))
 }
 
 // The lifetime in a properties frame, where there is one.
-fn lifetime(s: &[u8]) {
+fn lifetime(rt: &impl Print, s: &[u8]) -> io::Result<()> {
     if let Properties::Good(l) = properties::read::read_properties(s) {
         if let Lifetime::Seconds(n) = l {
-            print::number(b", lifetime ", n);
+            print::number(rt, b", lifetime ", n)?;
         }
     }
+    Ok(())
 }

@@ -15,19 +15,24 @@ mod judge;
 
 use base::bytes;
 use numbers::sequence::Sequence;
+use std::io;
+use std::io::Read;
 
-fn main() {
-    written();
-    let mut room = io::large_buffer();
-    let n = io::read_full(0, &mut room);
-    judge::judge_lines(&room[..n]);
+// At most so many bytes of standard input are read.
+const LINES: u64 = 65536;
+
+fn main(rt: HostRuntime) -> io::Result<()> {
+    written(&rt)?;
+    let mut lines = Vec::new(rt.alloc());
+    rt.reader().take(LINES).read_to_end(&mut lines)?;
+    judge::judge_lines(&rt, &lines)
 }
 
 // HUGZ, a KVPUB of 33 bytes, and the answer to a snapshot request: a KVSYNC and a KTHXBAI, each behind the identity.
-fn written() {
+fn written(rt: &impl Print) -> io::Result<()> {
     let mut out = [0; 128];
     let end = messages::write::write_hugz(&mut out, 0);
-    print::hex(b"HUGZ", bytes::front(&out, end));
+    print::hex(rt, b"HUGZ", bytes::front(&out, end))?;
     let end = messages::write::write_kvpub(
         &mut out,
         0,
@@ -37,12 +42,12 @@ fn written() {
         b"",
         b"cut",
     );
-    print::hex(b"KVPUB", bytes::front(&out, end));
+    print::hex(rt, b"KVPUB", bytes::front(&out, end))?;
     let end = snapshot(&mut out, b"\x00ABCD");
-    print::hex(b"snapshot", bytes::front(&out, end));
+    print::hex(rt, b"snapshot", bytes::front(&out, end))?;
     let end = messages::write::write_icanhaz(&mut out, 0, b"/clip/7/");
-    print::hex(b"ICANHAZ", bytes::front(&out, end));
-    short_output();
+    print::hex(rt, b"ICANHAZ", bytes::front(&out, end))?;
+    short_output(rt)
 }
 
 fn snapshot(out: &mut [u8], identity: &[u8]) -> usize {
@@ -53,9 +58,9 @@ fn snapshot(out: &mut [u8], identity: &[u8]) -> usize {
 }
 
 // Output that is a byte too short stays as it is.
-fn short_output() {
+fn short_output(rt: &impl Print) -> io::Result<()> {
     let mut out = [9; 21];
     let end = messages::write::write_hugz(&mut out, 0);
-    print::hex(b"HUGZ into 21 bytes", bytes::front(&out, end));
-    print::hex(b"which stay", &out);
+    print::hex(rt, b"HUGZ into 21 bytes", bytes::front(&out, end))?;
+    print::hex(rt, b"which stay", &out)
 }
