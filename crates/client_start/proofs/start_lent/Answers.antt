@@ -11,7 +11,7 @@ returns-in-Refuse c =
     let a = c.args in
     let h = c.refused.ensures.0 ∙ c.waiting.ensures in record {
       begins =
-      not_begun a.wanted.now a.tick.0 _ _ _ (sym c.in-Refuse.is ∙ c.check_start.ensures)
+          not_begun a.wanted.now a.tick.0 _ _ _ (sym c.in-Refuse.is ∙ c.check_start.ensures)
           (record { header = h; subtree_is = rw h refl })
           (c.refused.ensures.1 ∙ rw c.waiting.ensures);
       zeroed = (refl, refl);

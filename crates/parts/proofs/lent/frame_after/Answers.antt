@@ -15,5 +15,5 @@ pub returns-in_default : goal.returns-in_default
 returns-in_default c = none_given _ _ _ (search rules) c.add_lengths-at.ensures (sym c.in_default.is ∙ c.next_frame.ensures)
 
 pub returns : goal.returns
-returns c = one_given _ _ _ (search rules) c.add_lengths-at.ensures _ _ _ _ (sym c.in-Body.is ∙ c.next_frame.ensures) 
+returns c = one_given _ _ _ (search rules) c.add_lengths-at.ensures _ _ _ _ (sym c.in-Body.is ∙ c.next_frame.ensures)
     (elim c.if-more.branch [ then-more w ↦ w.frame-is ∙ sym (as_number w.if-more.true) | else-more w ↦ w.frame-is ∙ sym (as_number w.if-more.false) ])

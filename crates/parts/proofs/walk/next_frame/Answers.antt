@@ -19,9 +19,9 @@ is : (c : In-Frame) → Frame c.in-Frame.start c.in-Frame.len c.in-Frame.more �
 is c = sym c.in-Frame.is ∙ c.frame_at.ensures
 
 asked : (c : Joined-not-inside) → may_begin c.args.s.now c.args.at c.args.inside ≡ true
-asked c = 
+asked c =
     elim c.if-not-inside.branch [
-      then-not-inside+else-not-begins_message w ↦ asked_between _ _ _ _ w.begins_message.ensures (ap not w.if-not-begins_message.false)
+      | then-not-inside+else-not-begins_message w ↦ asked_between _ _ _ _ w.begins_message.ensures (ap not w.if-not-begins_message.false)
       | else-not-inside w ↦ asked_inside _ _ _ (ap not w.if-not-inside.false)
     ]
 
