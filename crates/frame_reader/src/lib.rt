@@ -1,6 +1,5 @@
 // Reading a message frame by frame: a reader holds the lent message and a place in it, so that one value says what is
-// read next. The borrow checker covers no function over a reader, so each takes one apart or makes one and calls
-// another. Every walk goes by frame_at, which makes a reader and asks it.
+// read next. Every walk goes by frame_at, which makes a reader and asks it.
 #![tactic(auto)]
 
 ghost use Rattle.std.specs.Prelude.{◌≡◌};
