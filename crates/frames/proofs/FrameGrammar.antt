@@ -1,4 +1,4 @@
--- `framesIn` reads the grammar of messages, and nothing else that is made of octets. Assumes nothing.
+-- `frames_in` reads the grammar of messages, and nothing else that is made of octets. Assumes nothing.
 use Prim.Native.Nat.{ℕ, zero, suc, ◌≤◌, ◌<◌}
 use native.Mathlib.Numerals.{bound}
 use native.Mathlib.Omega.{arith}

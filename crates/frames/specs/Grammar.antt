@@ -1,4 +1,4 @@
--- The framing rules as a grammar. That `framesIn` of `Messages` reads it, and nothing else, is proved in proofs/FrameGrammar.
+-- The framing rules as a grammar. That `frames_in` of `Messages` reads it, and nothing else, is proved in proofs/FrameGrammar.
 use Rattle.std.specs.Prelude.{◌^◌, ◌≤◌, ◌<◌, Bool, true, false, List, [], ◌∷◌, ◌++◌, length}
 use Rattle.base.specs.Bytes.{Bytes}
 use Rattle.base.specs.Octets.{octets}

@@ -1,4 +1,4 @@
--- `isKey` and `isSubtree` decide the grammars of keys and subtrees. Assumes nothing.
+-- `is_key` and `is_subtree` decide the grammars of keys and subtrees. Assumes nothing.
 use Prim.Native.Nat.{ℕ, suc, ◌-◌, ◌≤◌, ◌<◌}
 use native.Mathlib.Omega.{arith}
 use mathlib.Core.Bool.{true, false, not, ◌&&◌}

@@ -1,4 +1,4 @@
--- The rules for keys and subtrees as grammars. That `is_key` and `isSubtree` of `Keys` decide them is proved in proofs/KeyGrammar.
+-- The rules for keys and subtrees as grammars. That `is_key` and `is_subtree` of `Keys` decide them is proved in proofs/KeyGrammar.
 use Rattle.std.specs.Prelude.{◌<◌, [], ◌∷◌, ◌++◌, length}
 use Rattle.base.specs.Bytes.{Bytes, Lacks}
 

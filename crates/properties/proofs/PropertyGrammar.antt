@@ -1,4 +1,4 @@
--- `propertiesIn` decides the grammar of properties, and finds the properties in it. Assumes nothing.
+-- `properties_in` decides the grammar of properties, and finds the properties in it. Assumes nothing.
 use Prim.Native.Nat.{ℕ, ◌<◌}
 use native.Mathlib.Omega.{arith}
 use mathlib.Core.Bool.{Bool, true, false, cond, not, ◌&&◌}

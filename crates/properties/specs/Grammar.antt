@@ -1,4 +1,4 @@
--- The rule for properties as a grammar. That `propertiesIn` of `Properties` decides it is proved in proofs/PropertyGrammar.
+-- The rule for properties as a grammar. That `properties_in` of `Properties` decides it is proved in proofs/PropertyGrammar.
 use Rattle.std.specs.Prelude.{◌<◌, List, [], ◌∷◌, ◌++◌, length}
 use Rattle.base.specs.Bytes.{Bytes, Lacks}
 use Rattle.properties.specs.Properties.{Property}

@@ -1,4 +1,4 @@
--- The row that is due first, by its place among the rows: what the search for it finds. `by_place` ties it to `leastDue`
+-- The row that is due first, by its place among the rows: what the search for it finds. `by_place` ties it to `least_due`
 -- of server_calls.
 use Rattle.std.specs.Prelude.{ℕ, suc, cond, List, [], ◌∷◌, map, ltb}
 use Rattle.cells.specs.Cells.{cells}
