@@ -1,5 +1,4 @@
 -- `client::ask` meets its contract: it is that of the entry on lent arrays. Assumes nothing.
-use borrow.Author.Rules.{rules}
 use Rattle.client.proofs.ask.Goals as goal
 
 pub returns : goal.returns

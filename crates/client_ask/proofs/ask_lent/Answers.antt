@@ -1,7 +1,6 @@
 -- `client_ask::ask_lent` meets its contract: the state, the tick, and then how long the server has been silent. Assumes
 -- nothing.
 use mathlib.Core.List.{[]}
-use borrow.Author.Rules.{rules}
 use Rattle.client_ask.proofs.AskLaws.{ask-refused, is_gone, is_present}
 use Rattle.client_calls.proofs.QueryLaws.{found_ill, found_well}
 use Rattle.client_calls.specs.Calls.{ask}

@@ -1,7 +1,6 @@
 -- `client_calls::written` meets its contract: none written, or so many. Assumes nothing.
 use borrow.Author.Tests.{eq-eqb, ne_eqb}
 use mathlib.Core.Path.{◌∙◌}
-use borrow.Author.Rules.{rules}
 use Rattle.client_calls.proofs.written.Goals as goal
 
 pub returns-then-count-eq0 : goal.returns-then-count-eq0

@@ -1,5 +1,4 @@
 -- `client_effects::carry_out` meets its contract, whichever the plan is. Assumes nothing.
-use borrow.Author.Rules.{rules}
 use Rattle.client_effects.proofs.CarryLaws.{refused_so, noted_so, stored_so, stores_so}
 use Rattle.client_effects.proofs.carry_out.Goals as goal
 

@@ -1,6 +1,5 @@
 -- `client_effects::plan_row` meets its contract: the change is that of the place that was found. Assumes nothing.
 use mathlib.Core.Path.{◌≡◌, sym, ap, ◌∙◌}
-use borrow.Author.Rules.{rules}
 use Rattle.client_effects.proofs.PlanLaws.{row_full, row_fits, made_fits}
 use Rattle.row_cells.proofs.TextLaws.{keys_long}
 use Rattle.row_cells.specs.Texts.{keys_of}
@@ -12,6 +11,7 @@ use Rattle.client_effects.proofs.plan_row.Goals.{After-change_to-change, Start}
 abbrev wanted : (c : Start) → Change
 wanted s = change_to s.args.removes (place_of 0 s.args.key.now (keys_of s.args.header.count s.args.bytes.now s.args.lengths.now))
 
+-- the change, by what was found
 made : (c : After-change_to-change) → c.change_to-change.result ≡ wanted ((goal.at.After-change_to-change c).Start)
 made c = c.change_to-change.ensures ∙ ap (change_to c.args.removes) c.find_row-found.ensures
 

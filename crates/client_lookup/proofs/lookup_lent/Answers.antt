@@ -24,6 +24,7 @@ call s = lookup s.args.key.now (length s.args.out.now)
 well : (c : In-Accept) → WellFormed (state ((goal.at.In-Accept c).Start))
 well c = found_well (state ((goal.at.In-Accept c).Start)) c.check_state.ensures c.in-Accept.is
 
+-- the array has all its bytes
 sized : (c : After-all-1) → length c.args.bytes.now ≡ byte_count
 sized c = search rules
 

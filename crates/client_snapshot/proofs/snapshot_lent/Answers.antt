@@ -2,7 +2,6 @@
 -- nothing.
 use native.Mathlib.Omega.{arith}
 use mathlib.Core.Path.{◌≡◌, ◌∙◌}
-use borrow.Author.Rules.{rules}
 use Rattle.base.specs.Bytes.{Bytes}
 use Rattle.client_calls.specs.Calls.{snapshot}
 use Rattle.client_calls.specs.Effects.{snapshot_effect}

@@ -9,7 +9,6 @@ use Rattle.answers.specs.declared.refusal.Refusal.{Refusal}
 use Rattle.base.proofs.CheckLaws.{Left, pass, stop, done, asked}
 use Rattle.base.specs.Checks.{Check, first_refusal}
 use Rattle.client_calls.specs.Start.{start_checks}
-use borrow.Author.Rules.{rules}
 use Rattle.client_start.proofs.check_start.Goals as goal
 use Rattle.client_start.proofs.check_start.Goals.{Else-not-is_subtree, Else-not-is_time, Start}
 

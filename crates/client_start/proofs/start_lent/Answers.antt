@@ -1,11 +1,11 @@
 -- `client_start::start_lent` meets its contract: the arrays are filled with zeros, and the subtree is put to the front
 -- of its own. A start that is refused puts nothing there, and begins at tick 0. Assumes nothing.
 use mathlib.Core.Path.{refl, sym, ap, ◌∙◌}
-use borrow.Author.Rules.{rules}
 use Rattle.client_start.proofs.StartLaws.{placed, begun, not_begun}
 use Rattle.client_start.specs.Waiting.{waiting_header}
 use Rattle.client_start.proofs.start_lent.Goals as goal
 
+-- what is refused
 pub returns-in-Refuse : goal.returns-in-Refuse
 returns-in-Refuse c =
     let a = c.args in
@@ -17,6 +17,7 @@ returns-in-Refuse c =
       zeroed = (refl, refl);
     }
 
+-- what is accepted
 pub returns-in-Accept : goal.returns-in-Accept
 returns-in-Accept c =
     let a = c.args in

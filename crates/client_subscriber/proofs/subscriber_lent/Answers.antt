@@ -2,7 +2,6 @@
 -- Assumes nothing.
 use native.Mathlib.Omega.{arith}
 use mathlib.Core.Path.{◌≡◌, ◌∙◌}
-use borrow.Author.Rules.{rules}
 use Rattle.base.specs.Bytes.{Bytes}
 use Rattle.client_calls.specs.Calls.{subscriber}
 use Rattle.client_effects.proofs.CallLaws.{Sends}

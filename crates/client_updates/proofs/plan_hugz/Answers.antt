@@ -2,7 +2,6 @@
 -- the tick. Assumes nothing.
 use mathlib.Core.List.{List, []}
 use mathlib.Core.Path.{◌≡◌, refl, sym, ◌∙◌}
-use borrow.Author.Rules.{rules}
 use Rattle.answers.specs.Refusals.{verdict}
 use Rattle.answers.specs.declared.refusal.Refusal.{Refusal}
 use Rattle.answers.specs.declared.refusal.Verdict.TheVariants.{Accept}
@@ -20,6 +19,7 @@ use Rattle.client_updates.proofs.plan_hugz.Goals.{In-Accept, Start}
 abbrev table : (c : Start) → List (Check Refusal)
 table s = tick_checks s.args.header.clock.0 s.args.tick.0
 
+-- once the tick is good, and once the phase is
 abbrev behind : (c : Start) → Plan
 behind s = effect_plan [] s.args.header (hear s.args.tick.0)
 

@@ -3,7 +3,6 @@
 use mathlib.Core.List.{List}
 use mathlib.Core.Path.{ap}
 use mathlib.Core.Bool.{not}
-use borrow.Author.Rules.{rules}
 use Rattle.base.specs.Bytes.{Bytes}
 use Rattle.client_calls.specs.Effects.{update_by}
 use Rattle.client_effects.proofs.PlanLaws.{too_early, is_live}
@@ -17,6 +16,7 @@ use Rattle.client_updates.proofs.plan_kvpub.Goals.{Start}
 abbrev keys : (c : Start) → List Bytes
 keys s = keys_of s.args.header.count s.args.bytes.now s.args.lengths.now
 
+-- once the phase is good
 abbrev wanted : (c : Start) → Plan
 wanted s =
     let a = s.args in

@@ -2,7 +2,6 @@
 -- for it. Assumes nothing.
 use mathlib.Core.List.{List}
 use lib.ListN.{length}
-use borrow.Author.Rules.{rules}
 use Rattle.answers.specs.declared.answer.Kind.TheVariants.{Wrote}
 use Rattle.answers.specs.declared.refusal.Refusal.{Refusal}
 use Rattle.base.specs.Bytes.{Bytes}

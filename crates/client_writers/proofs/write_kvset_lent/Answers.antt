@@ -3,7 +3,6 @@
 use mathlib.Core.List.{List}
 use mathlib.Core.Path.{sym, ◌∙◌}
 use lib.ListN.{length}
-use borrow.Author.Rules.{rules}
 use Rattle.answers.proofs.VerdictLaws.{accepted, refused}
 use Rattle.answers.specs.declared.answer.Kind.TheVariants.{Wrote}
 use Rattle.answers.specs.declared.refusal.Refusal.{Refusal}

@@ -1,6 +1,5 @@
 -- `frame_reader::frame_from` meets its contract: the bytes from the place on begin with the frame, and past the end there are none. Assumes nothing.
 use mathlib.Core.Path.{ap, ◌∙◌}
-use borrow.Author.Rules.{rules}
 use Rattle.base.proofs.CutLaws.{tail_part}
 use Rattle.frame_reader.proofs.PlaceLaws.{step_past}
 use Rattle.frames.specs.Steps.{step_of}

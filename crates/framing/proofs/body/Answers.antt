@@ -1,6 +1,5 @@
 -- `framing::body` meets its contract: the part of the message that the place tells. Assumes nothing.
 use mathlib.Core.Path.{◌∙◌}
-use borrow.Author.Rules.{rules}
 use borrow.Author.Tests.{le-ltb, lt-ltb}
 use Rattle.framing.proofs.body.Goals as goal
 

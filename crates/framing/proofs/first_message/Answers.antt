@@ -1,6 +1,5 @@
 -- `framing::first_message` meets its contract: a message that is whole ends where the walk stops. Assumes nothing.
 use mathlib.Core.Path.{sym, ◌∙◌}
-use borrow.Author.Rules.{rules}
 use Rattle.framing.proofs.SplitLaws.{message_none, message_surplus, message-whole}
 use Rattle.framing.proofs.first_message.Goals as goal
 

@@ -1,5 +1,4 @@
 -- `framing::note` meets its contract: it changes one place of each array, or nothing. Assumes nothing.
-use borrow.Author.Rules.{rules}
 use borrow.Author.Tests.{le-leb, lt-leb}
 use Rattle.framing.proofs.note.Goals as goal
 

@@ -1,8 +1,7 @@
 -- `key_order::are_alike` meets its contract: as long as the bytes passed are alike, the order is that of what is left. Assumes nothing.
-use Prim.Native.Nat.{ℕ, ◌+◌, ◌-◌, ◌≤◌}
+use Prim.Native.Nat.{ℕ, ◌+◌, ◌≤◌}
 use native.Mathlib.Nat.{add-zero}
 use native.Mathlib.Omega.{arith}
-use mathlib.Core.Bool.{true}
 use mathlib.Core.Path.{◌≡◌, ap, ◌∙◌}
 use lib.ListN.{length, drop}
 use borrow.Author.Rules.{rules}
@@ -11,6 +10,7 @@ use Rattle.key_order.specs.Order.{order_of}
 use Rattle.key_order.proofs.are_alike.Goals as goal
 use Rattle.key_order.proofs.are_alike.Goals.{Start}
 
+-- what is required
 pre : (s : Start) → (s.args.i + 8 ≤ length s.args.a.now) × (s.args.i + 8 ≤ length s.args.b.now)
 pre s = search rules
 

@@ -1,12 +1,8 @@
 -- `key_order::are_alike` meets its contract: as long as the bytes passed are alike, the order is that of what is left. Assumes nothing.
-use Prim.Native.Nat.{ℕ, ◌+◌, ◌-◌, ◌≤◌}
-use native.Mathlib.Nat.{add-zero}
-use native.Mathlib.Omega.{arith}
+use Prim.Native.Nat.{◌+◌, ◌-◌, ◌≤◌}
 use mathlib.Core.Bool.{true}
-use mathlib.Core.Path.{◌≡◌, ap, ◌∙◌}
-use lib.ListN.{length, drop}
-use borrow.Author.Rules.{rules}
-use Rattle.key_order.proofs.OrderLaws.{alike_turn}
+use mathlib.Core.Path.{◌≡◌}
+use lib.ListN.{drop}
 use Rattle.key_order.specs.Order.{order_of}
 use Rattle.key_order.proofs.are_alike.Given as goal
 

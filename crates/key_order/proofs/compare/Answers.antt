@@ -1,11 +1,9 @@
 -- `key_order::compare` meets its contract: the bytes passed are alike, so the order is that of what is left. Assumes nothing.
-use Prim.Native.Nat.{◌-◌, ◌≤◌, ◌<◌}
+use Prim.Native.Nat.{◌<◌}
 use native.Mathlib.Omega.{arith}
-use mathlib.Core.Path.{◌≡◌, sym, ◌∙◌}
-use lib.ListN.{length, get_or, drop}
-use borrow.Author.Rules.{rules}
+use mathlib.Core.Path.{sym, ◌∙◌}
+use lib.ListN.{get_or}
 use Rattle.key_order.proofs.OrderLaws.{less_byte, greater_byte, equal_byte, b_ends, a_ends, both_end}
-use Rattle.key_order.specs.Order.{order_of}
 use Rattle.key_order.proofs.compare.Goals as goal
 
 pub loop-i-init : goal.loop-i-init

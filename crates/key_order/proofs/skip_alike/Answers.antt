@@ -1,12 +1,9 @@
 -- `key_order::skip_alike` meets its contract: what was passed is alike in both. Assumes nothing.
-use Prim.Native.Nat.{◌-◌, ◌≤◌}
 use mathlib.Core.Path.{ap}
 use mathlib.Core.Bool.{not}
 use native.Mathlib.Omega.{arith}
-use mathlib.Core.Path.{◌≡◌, refl, ◌∙◌}
-use lib.ListN.{length, drop}
+use mathlib.Core.Path.{refl, ◌∙◌}
 use borrow.Author.Tests.{not-false}
-use Rattle.key_order.specs.Order.{order_of}
 use Rattle.key_order.proofs.skip_alike.Goals as goal
 
 pub loop-i-init : goal.loop-i-init

@@ -1,9 +1,7 @@
 -- `key_order::skip_alike` meets its contract: what was passed is alike in both. Assumes nothing.
 use Prim.Native.Nat.{◌-◌, ◌≤◌}
-use native.Mathlib.Omega.{arith}
-use mathlib.Core.Path.{◌≡◌, refl, ◌∙◌}
+use mathlib.Core.Path.{◌≡◌}
 use lib.ListN.{length, drop}
-use borrow.Author.Tests.{not-false}
 use Rattle.key_order.specs.Order.{order_of}
 use Rattle.key_order.proofs.skip_alike.Given as goal
 

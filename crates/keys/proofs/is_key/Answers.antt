@@ -1,11 +1,9 @@
 -- `keys::is_key` meets its contract: the flag tells of the bytes passed, and of all at the end. Assumes nothing.
-use Prim.Native.Nat.{◌-◌, ◌≤◌}
+use Prim.Native.Nat.{◌-◌}
 use native.Mathlib.Omega.{arith}
-use mathlib.Core.Bool.{◌&&◌}
-use mathlib.Core.Path.{◌≡◌, refl, sym, ◌∙◌}
-use lib.ListN.{length, get_or, drop}
-use borrow.Author.Rules.{rules}
-use Rattle.keys.proofs.KeyLaws.{clean, clean_turn, clean_done, key_none, key-long, key_other, key_open, key-passed}
+use mathlib.Core.Path.{refl, sym, ◌∙◌}
+use lib.ListN.{get_or}
+use Rattle.keys.proofs.KeyLaws.{clean_turn, clean_done, key_none, key-long, key_other, key_open, key-passed}
 use Rattle.keys.proofs.is_key.Goals as goal
 
 pub returns-then-s-lt1 : goal.returns-then-s-lt1

@@ -4,7 +4,6 @@ use native.Mathlib.Omega.{arith}
 use mathlib.Core.Path.{sym, ◌∙◌}
 use lib.ListN.{length}
 use lib.Seq.{length-take-le}
-use borrow.Author.Rules.{rules}
 use Rattle.keys.proofs.KeyLaws.{subtree-empty, subtree-long, subtree_open, subtree_closed}
 use Rattle.keys.proofs.is_subtree.Goals as goal
 

@@ -2,7 +2,6 @@
 use native.Mathlib.Omega.{arith}
 use mathlib.Core.List.{◌++◌}
 use lib.ListN.{length-append}
-use borrow.Author.Rules.{rules}
 use Rattle.cells.specs.Cells.{cells}
 use Rattle.row_change.proofs.ChangeLaws.{fits-remove, fits_replace, fits-insert, by_leave, by_remove, cell-within, cells_replace, cells-insert}
 use Rattle.row_change.proofs.change_bytes.Goals as goal

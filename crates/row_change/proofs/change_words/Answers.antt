@@ -1,6 +1,5 @@
 -- `row_change::change_words` meets its contract: cells move, and the cell of the changed row is written. Assumes nothing.
 use native.Mathlib.Omega.{arith}
-use borrow.Author.Rules.{rules}
 use Rattle.cells.specs.Cells.{cells}
 use Rattle.row_change.proofs.ChangeLaws.{fits-remove, fits_replace, fits-insert, by_leave, by_remove, cell-within, cells_replace, cells-insert}
 use Rattle.row_change.proofs.change_words.Goals as goal

@@ -1,6 +1,5 @@
 -- `row_change::count_after` meets its contract, by the kind of the change. It fits the rows that there are, so one can be taken off, and one more can be counted.
 -- Assumes nothing.
-use borrow.Author.Rules.{rules}
 use native.Mathlib.Omega.{arith}
 use Rattle.row_change.proofs.ChangeLaws.{fits-remove, fits-insert}
 use Rattle.row_change.proofs.count_after.Goals as goal

@@ -2,7 +2,6 @@
 use mathlib.Core.Path.{sym, ap}
 use Rattle.row_change.specs.Changes.{is_over}
 use Rattle.row_change.specs.declared.Change.{Change}
-use borrow.Author.Rules.{rules}
 use Rattle.row_change.proofs.overfills.Goals as goal
 
 pub returns-in-Insert : goal.returns-in-Insert

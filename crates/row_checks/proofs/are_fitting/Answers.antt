@@ -1,9 +1,7 @@
 -- `row_checks::are_fitting` meets its contract: the flag tells of the rows passed, and of all at the end. Assumes nothing.
-use Prim.Native.Nat.{◌≤◌, ◌-◌}
 use native.Mathlib.Omega.{arith}
 use mathlib.Core.List.{[]}
-use mathlib.Core.Path.{◌≡◌, refl, ap, ◌∙◌}
-use lib.ListN.{take}
+use mathlib.Core.Path.{refl, ap, ◌∙◌}
 use lib.Seq.{take_all}
 use Rattle.base.specs.Bytes.{every}
 use Rattle.cells.proofs.CellLaws.{length-cells, cell-at}

@@ -1,16 +1,11 @@
 -- `row_checks::are_fitting` meets its contract: the flag tells of the rows passed, and of all at the end. Assumes nothing.
 use Prim.Native.Nat.{◌≤◌, ◌-◌}
-use native.Mathlib.Omega.{arith}
-use mathlib.Core.List.{[]}
-use mathlib.Core.Path.{◌≡◌, refl, ap, ◌∙◌}
+use mathlib.Core.Path.{◌≡◌}
 use lib.ListN.{take}
-use lib.Seq.{take_all}
 use Rattle.base.specs.Bytes.{every}
-use Rattle.cells.proofs.CellLaws.{length-cells, cell-at}
-use Rattle.cells.specs.Cells.{cells, cell_at}
+use Rattle.cells.specs.Cells.{cells}
 use Rattle.row_cells.specs.Faults.{fitting}
 use Rattle.row_cells.specs.Sizes.{length_count}
-use Rattle.row_checks.proofs.PassLaws.{fitting-more}
 use Rattle.row_checks.proofs.are_fitting.Given as goal
 
 abbrev pub invariant-loop-i : goal.invariant-loop-i

@@ -1,20 +1,16 @@
 -- `row_checks::are_sorted_keys` meets its contract: the keys passed are keys and rise, so all do if the others do. Assumes nothing.
-use Prim.Native.Nat.{◌≤◌, ◌-◌}
 use mathlib.Core.Path.{ap}
 use mathlib.Core.Bool.{not}
 use native.Mathlib.Omega.{arith}
-use mathlib.Core.Bool.{◌&&◌}
 use mathlib.Core.List.{List, []}
 use mathlib.Core.Path.{◌≡◌, refl, sym, ◌∙◌}
 use lib.ListN.{length, get_or}
-use borrow.Author.Rules.{rules}
 use borrow.Author.Tests.{not-true, not-false}
-use Rattle.base.specs.Bytes.{Bytes, every}
+use Rattle.base.specs.Bytes.{Bytes}
 use Rattle.keys.specs.Keys.{is_key}
 use Rattle.row_cells.proofs.TextLaws.{key_is, keys_long, key-most_at}
 use Rattle.row_cells.specs.Texts.{keys_of}
-use Rattle.row_checks.proofs.PassLaws.{Passed, sorted_start, no_key, not_above, sorted_turn, sorted_done}
-use Rattle.rows.specs.Rows.{rising}
+use Rattle.row_checks.proofs.PassLaws.{sorted_start, no_key, not_above, sorted_turn, sorted_done}
 use Rattle.row_checks.proofs.are_sorted_keys.Goals as goal
 use Rattle.row_checks.proofs.are_sorted_keys.Goals.{After-key_at-key, Start}
 
@@ -24,6 +20,7 @@ keys s = keys_of s.args.count s.args.bytes.now s.args.lengths.now
 many : (s : Start) → length (keys s) ≡ s.args.count
 many s = keys_long s.args.count s.args.bytes.now s.args.lengths.now
 
+-- what is tested is the key of row i
 own : (c : After-key_at-key) → get_or (keys ((goal.at.After-key_at-key c).Start)) c.loop-i.i [] ≡ c.key_at-key.result.now
 own c =
     let a = c.args in

@@ -1,17 +1,10 @@
 -- `row_checks::are_sorted_keys` meets its contract: the keys passed are keys and rise, so all do if the others do. Assumes nothing.
 use Prim.Native.Nat.{◌≤◌, ◌-◌}
-use native.Mathlib.Omega.{arith}
 use mathlib.Core.Bool.{◌&&◌}
-use mathlib.Core.List.{List, []}
-use mathlib.Core.Path.{◌≡◌, refl, sym, ◌∙◌}
-use lib.ListN.{length, get_or}
-use borrow.Author.Rules.{rules}
-use borrow.Author.Tests.{not-true, not-false}
-use Rattle.base.specs.Bytes.{Bytes, every}
+use Rattle.base.specs.Bytes.{every}
 use Rattle.keys.specs.Keys.{is_key}
-use Rattle.row_cells.proofs.TextLaws.{key_is, keys_long, key-most_at}
 use Rattle.row_cells.specs.Texts.{keys_of}
-use Rattle.row_checks.proofs.PassLaws.{Passed, sorted_start, no_key, not_above, sorted_turn, sorted_done}
+use Rattle.row_checks.proofs.PassLaws.{Passed}
 use Rattle.rows.specs.Rows.{rising}
 use Rattle.row_checks.proofs.are_sorted_keys.Given as goal
 

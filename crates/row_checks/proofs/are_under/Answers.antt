@@ -1,12 +1,11 @@
 -- `row_checks::are_under` meets its contract: the keys passed are under the subtree, so all are if the others are. Assumes nothing.
-use Prim.Native.Nat.{◌≤◌, ◌-◌}
 use mathlib.Core.Bool.{not}
 use native.Mathlib.Omega.{arith}
 use mathlib.Core.List.{List, []}
 use mathlib.Core.Path.{◌≡◌, refl, sym, ap, ◌∙◌}
-use lib.ListN.{length, get_or, drop}
+use lib.ListN.{length, get_or}
 use borrow.Author.Tests.{not-true, not-false}
-use Rattle.base.specs.Bytes.{Bytes, every}
+use Rattle.base.specs.Bytes.{Bytes}
 use Rattle.keys.specs.Keys.{under}
 use Rattle.row_cells.proofs.TextLaws.{key_is, keys_long, key-most_at}
 use Rattle.row_cells.specs.Texts.{keys_of}
@@ -20,6 +19,7 @@ keys s = keys_of s.args.count s.args.bytes.now s.args.lengths.now
 many : (s : Start) → length (keys s) ≡ s.args.count
 many s = keys_long s.args.count s.args.bytes.now s.args.lengths.now
 
+-- what is tested is the key of row i
 told : (c : After-is_under) → under c.args.subtree.now (get_or (keys ((goal.at.After-is_under c).Start)) c.loop-i.i []) ≡ c.is_under.result
 told c =
     let a = c.args in

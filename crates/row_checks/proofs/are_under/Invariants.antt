@@ -1,15 +1,10 @@
 -- `row_checks::are_under` meets its contract: the keys passed are under the subtree, so all are if the others are. Assumes nothing.
 use Prim.Native.Nat.{◌≤◌, ◌-◌}
-use native.Mathlib.Omega.{arith}
-use mathlib.Core.List.{List, []}
-use mathlib.Core.Path.{◌≡◌, refl, sym, ap, ◌∙◌}
-use lib.ListN.{length, get_or, drop}
-use borrow.Author.Tests.{not-true, not-false}
-use Rattle.base.specs.Bytes.{Bytes, every}
+use mathlib.Core.Path.{◌≡◌}
+use lib.ListN.{drop}
+use Rattle.base.specs.Bytes.{every}
 use Rattle.keys.specs.Keys.{under}
-use Rattle.row_cells.proofs.TextLaws.{key_is, keys_long, key-most_at}
 use Rattle.row_cells.specs.Texts.{keys_of}
-use Rattle.row_checks.proofs.PassLaws.{every_turn, every-stop, every_done}
 use Rattle.row_checks.proofs.are_under.Given as goal
 
 abbrev pub invariant-loop-i : goal.invariant-loop-i

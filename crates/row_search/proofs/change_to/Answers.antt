@@ -1,6 +1,5 @@
 -- What is found and whether its row is to be removed are known in each arm, and there the change is as defined. Assumes nothing.
 use mathlib.Core.Path.{sym, ap₂}
-use borrow.Author.Rules.{rules}
 use Rattle.row_search.specs.Places.{change_to}
 use Rattle.row_search.proofs.change_to.Goals as goal
 

@@ -1,20 +1,18 @@
 -- `row_search::find_row` meets its contract. The loop keeps that the keys between the two places answer for all of them:
 -- the key in the middle tells which half does. Once there are none left between, the key is missing there. The measure is
 -- how many are left between. Assumes nothing.
-use Prim.Native.Nat.{ℕ, ◌+◌, ◌-◌, ◌/◌, ◌≤◌}
+use Prim.Native.Nat.{ℕ, ◌+◌, ◌-◌, ◌/◌}
 use native.Mathlib.Omega.{arith}
 use mathlib.Core.List.{List, []}
 use mathlib.Core.Path.{◌≡◌, sym, ap, ◌∙◌}
 use lib.ListN.{length, get_or}
 use lib.Seq.{take_all}
-use borrow.Author.Rules.{rules}
 use Rattle.base.specs.Bytes.{Bytes}
 use Rattle.key_order.specs.Order.{order_of}
 use Rattle.row_cells.proofs.TextLaws.{key_is, keys_long, key-most_at}
 use Rattle.row_cells.specs.Texts.{keys_of}
 use Rattle.row_search.specs.Places.{place_of}
-use Rattle.row_search.proofs.FindLaws.{between, go_right, go_left, found, missing}
-use Rattle.row_search.proofs.find_row.Invariants.{Halving}
+use Rattle.row_search.proofs.FindLaws.{go_right, go_left, found, missing}
 use Rattle.row_search.proofs.find_row.Goals as goal
 use Rattle.row_search.proofs.find_row.Goals.{After-compare, Start}
 
@@ -24,9 +22,11 @@ middle lo hi = lo + (hi - lo) / 2
 abbrev keys : (c : Start) → List Bytes
 keys s = keys_of s.args.count s.args.bytes.now s.args.lengths.now
 
+-- as many as there are rows
 many : (s : Start) → length (keys s) ≡ s.args.count
 many s = keys_long s.args.count s.args.bytes.now s.args.lengths.now
 
+-- what is compared with the key is the key of the row in the middle
 told : (c : After-compare)
     → order_of (get_or (keys ((goal.at.After-compare c).Start)) (middle c.loop-lo.lo c.loop-lo.hi) []) c.args.key.now ≡ c.compare.result
 told c =

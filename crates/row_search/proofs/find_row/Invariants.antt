@@ -1,19 +1,13 @@
 -- `row_search::find_row` meets its contract. The loop keeps that the keys between the two places answer for all of them:
 -- the key in the middle tells which half does. Once there are none left between, the key is missing there. The measure is
 -- how many are left between. Assumes nothing.
-use Prim.Native.Nat.{ℕ, ◌+◌, ◌-◌, ◌/◌, ◌≤◌}
-use native.Mathlib.Omega.{arith}
-use mathlib.Core.List.{List, []}
-use mathlib.Core.Path.{◌≡◌, sym, ap, ◌∙◌}
-use lib.ListN.{length, get_or}
-use lib.Seq.{take_all}
-use borrow.Author.Rules.{rules}
+use Prim.Native.Nat.{ℕ, ◌-◌, ◌≤◌}
+use mathlib.Core.List.{List}
+use mathlib.Core.Path.{◌≡◌}
 use Rattle.base.specs.Bytes.{Bytes}
-use Rattle.key_order.specs.Order.{order_of}
-use Rattle.row_cells.proofs.TextLaws.{key_is, keys_long, key-most_at}
 use Rattle.row_cells.specs.Texts.{keys_of}
 use Rattle.row_search.specs.Places.{place_of}
-use Rattle.row_search.proofs.FindLaws.{between, go_right, go_left, found, missing}
+use Rattle.row_search.proofs.FindLaws.{between}
 use Rattle.row_search.proofs.find_row.Given as goal
 
 pub record Halving (k : Bytes) (ks : List Bytes) (count lo hi : ℕ) : Type 0 where

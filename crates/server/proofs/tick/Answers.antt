@@ -1,5 +1,4 @@
 -- `server::tick` meets its contract: it is that of the entry on lent arrays. Assumes nothing.
-use borrow.Author.Rules.{rules}
 use Rattle.server.proofs.tick.Goals as goal
 
 pub returns : goal.returns

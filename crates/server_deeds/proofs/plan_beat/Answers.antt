@@ -1,6 +1,5 @@
 -- `server_deeds::plan_beat` meets its contract: the time since the last publication, and then the output. Assumes
 -- nothing.
-use borrow.Author.Rules.{rules}
 use Rattle.server_deeds.proofs.PlanLaws.{is_quiet, no_beat, beats}
 use Rattle.server_deeds.proofs.plan_beat.Goals as goal
 

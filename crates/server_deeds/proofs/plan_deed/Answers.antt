@@ -1,6 +1,5 @@
 -- `server_deeds::plan_deed` meets its contract: by the row that is due. Assumes nothing.
 use mathlib.Core.Path.{◌∙◌}
-use borrow.Author.Rules.{rules}
 use Rattle.server_state.specs.Views.{lent}
 use Rattle.server_state.specs.declared.Server.{Server}
 use Rattle.server_deeds.proofs.DuePlaceLaws.{due_row-below}

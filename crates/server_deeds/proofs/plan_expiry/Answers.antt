@@ -1,6 +1,5 @@
 -- `server_deeds::plan_expiry` meets its contract: a number, and then the output. Assumes nothing.
 use native.Mathlib.Omega.{arith}
-use borrow.Author.Rules.{rules}
 use Rattle.base.specs.Bytes.{Bytes}
 use Rattle.numbers.proofs.SequenceLaws.{next_none, next_some}
 use Rattle.row_cells.proofs.TextLaws.{key-most_at, row-key-short}

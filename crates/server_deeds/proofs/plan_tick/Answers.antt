@@ -2,7 +2,6 @@
 use mathlib.Core.List.{List, ◌++◌}
 use mathlib.Core.Option.{Option, none}
 use mathlib.Core.Path.{◌≡◌, sym, ap, ◌∙◌}
-use borrow.Author.Rules.{rules}
 use Rattle.answers.proofs.VerdictLaws.{accepted, refused, past_refused}
 use Rattle.answers.specs.declared.refusal.Refusal.{Refusal}
 use Rattle.base.proofs.CheckLaws.{stop-second, reach_third}
@@ -30,6 +29,7 @@ time s = tick_checks s.args.header.last_tick.0 s.args.tick.0
 abbrev deeds : (c : Start) → List (Check Refusal)
 deeds s = deed_checks s.args.header.number.0 (deed_at (server s) s.args.tick.0 (due_in (server s) s.args.tick.0)) s.args.room
 
+-- what a first refusal, or none, comes to
 abbrev plan : (c : Start) → Option Refusal → Plan
 plan s x = or_refuse x (plan_at (server s) s.args.tick.0 (due_in (server s) s.args.tick.0))
 

@@ -2,7 +2,6 @@
 -- and published. Assumes nothing.
 use mathlib.Core.Path.{ap}
 use lib.ListN.{length}
-use borrow.Author.Rules.{rules}
 use Rattle.base.specs.Bytes.{Bytes}
 use Rattle.server_calls.proofs.AnswerLaws.{refused_call}
 use Rattle.server_calls.specs.Calls.{kvset}

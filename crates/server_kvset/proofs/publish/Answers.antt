@@ -1,6 +1,5 @@
 -- `server_kvset::publish` meets its contract: the frames are written as they lie in the message. Assumes nothing.
 use mathlib.Core.Path.{refl}
-use borrow.Author.Rules.{rules}
 use Rattle.ports.specs.Bodies.{fields_at}
 use Rattle.server_calls.proofs.LengthLaws.{written_as}
 use Rattle.server_kvset.proofs.publish.Goals as goal

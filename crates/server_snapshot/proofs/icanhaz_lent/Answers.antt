@@ -12,6 +12,7 @@ use Rattle.server_snapshot.proofs.icanhaz_lent.Goals.{After-check_request, Start
 abbrev state : (c : Start) → Server
 state s = lent s.args.bytes.now s.args.lengths.now s.args.stamps.now s.args.header
 
+-- how long the array of bytes is
 sized : (c : After-check_request) → length c.args.bytes.now ≡ byte_count
 sized c = search rules
 

@@ -6,7 +6,6 @@ use Rattle.answers.specs.Refusals.{verdict}
 use Rattle.base.proofs.CheckLaws.{Left, pass, stop, done, asked}
 use Rattle.base.specs.Checks.{first_refusal}
 use Rattle.server_calls.specs.Start.{start_checks}
-use borrow.Author.Rules.{rules}
 use Rattle.server_start.proofs.check_start.Goals as goal
 use Rattle.server_start.proofs.check_start.Goals.{Start}
 

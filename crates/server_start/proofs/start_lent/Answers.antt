@@ -1,6 +1,5 @@
 -- `server_start::start_lent` meets its contract: the arrays are zeros, and the header is that of no rows. Assumes nothing.
 use mathlib.Core.Path.{refl}
-use borrow.Author.Rules.{rules}
 use Rattle.server_start.proofs.StartLaws.{start-refused, start-accepted}
 use Rattle.server_start.proofs.start_lent.Goals as goal
 

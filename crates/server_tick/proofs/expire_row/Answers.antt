@@ -1,7 +1,6 @@
 -- `server_tick::expire_row` meets its contract: the removal is written while the key is there, and then the row is taken
 -- out of every array. Assumes nothing.
 use native.Mathlib.Omega.{arith}
-use borrow.Author.Rules.{rules}
 use Rattle.row_cells.proofs.TextLaws.{key-most_at}
 use Rattle.server_calls.proofs.LengthLaws.{expiry_as}
 use Rattle.server_tick.proofs.expire_row.Goals as goal

@@ -1,7 +1,6 @@
 -- `server_tick::tick_lent` meets its contract: it does what was planned. Assumes nothing.
 use mathlib.Core.Path.{ap}
 use lib.ListN.{length}
-use borrow.Author.Rules.{rules}
 use Rattle.server_calls.proofs.AnswerLaws.{refused_call}
 use Rattle.server_calls.specs.Calls.{tick}
 use Rattle.server_state.specs.Views.{lent}

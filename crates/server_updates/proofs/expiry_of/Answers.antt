@@ -1,7 +1,6 @@
 -- `server_updates::expiry_of` meets its contract: a lifetime is added to the tick, and without one the row does not
 -- expire. Assumes nothing.
 use native.Mathlib.Omega.{arith}
-use borrow.Author.Rules.{rules}
 use Rattle.server_updates.proofs.PlanLaws.{in_range, expires_then}
 use Rattle.server_updates.proofs.expiry_of.Goals as goal
 

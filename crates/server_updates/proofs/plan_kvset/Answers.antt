@@ -4,7 +4,6 @@ use mathlib.Core.List.{List, ◌++◌}
 use mathlib.Core.Option.{Option, none}
 use mathlib.Core.Path.{◌≡◌, sym, ap, ◌∙◌}
 use borrow.Author.Tests.{leb-true, not-false}
-use borrow.Author.Rules.{rules}
 use Rattle.answers.proofs.VerdictLaws.{accepted, past_refused}
 use Rattle.answers.specs.declared.refusal.Refusal.{Refusal}
 use Rattle.base.proofs.CheckLaws.{passed, pass_all, both_passed, stop-second, reach_third}
@@ -28,6 +27,7 @@ use Rattle.server_updates.proofs.plan_kvset.Goals.{In-Accept, In-Accept-check_ti
 abbrev server : (c : Start) → Server
 server s = lent s.args.bytes.now s.args.lengths.now s.args.stamps.now s.args.header
 
+-- ---- the tables of checks
 abbrev state : (c : Start) → List (Check Refusal)
 state s = ill_forms (server s)
 
@@ -43,9 +43,11 @@ fields s = fields_at s.args.msg.now s.args.split.places
 abbrev update : (c : Start) → List (Check Refusal)
 update s = update_table (key_list (server s)) s.args.header (fields s) s.args.room
 
+-- what a first refusal, or none, comes to
 abbrev plan : (c : Start) → Option Refusal → Plan
 plan s x = store_plan x (key_list (server s)) s.args.header (fields s) s.args.tick.0 (lifetime_in (properties_of (fields s).properties))
 
+-- ---- what passed
 good-state : (c : In-Accept) → first_refusal (state ((goal.at.In-Accept c).Start)) ≡ none
 good-state c = accepted (first_refusal (state ((goal.at.In-Accept c).Start))) (sym c.in-Accept.is ∙ c.check_state.ensures)
 

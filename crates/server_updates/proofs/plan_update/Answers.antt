@@ -1,6 +1,5 @@
 -- `server_updates::plan_update` meets its contract: the checks after the tick, in their order. Assumes nothing.
 use mathlib.Core.List.{List}
-use borrow.Author.Rules.{rules}
 use Rattle.base.specs.Bytes.{Bytes}
 use Rattle.messages.specs.Fields.{Fields}
 use Rattle.numbers.proofs.SequenceLaws.{next_none, next_some}

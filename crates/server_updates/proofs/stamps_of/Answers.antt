@@ -1,5 +1,4 @@
 -- `server_updates::stamps_of` meets its contract: the expiry is what its function gives. Assumes nothing.
-use borrow.Author.Rules.{rules}
 use Rattle.server_updates.proofs.stamps_of.Goals as goal
 
 pub returns : goal.returns

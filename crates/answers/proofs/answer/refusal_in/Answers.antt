@@ -2,7 +2,6 @@
 use Prim.Native.Nat.{ℕ}
 use mathlib.Core.List.{List, [], ◌∷◌}
 use mathlib.Core.Path.{◌≡◌, refl}
-use borrow.Author.Rules.{rules}
 use denote.Enum.Declared.{tag_of}
 use borrow.Enum.Refused.{opened}
 use types.Run.{OneOf, miss}
@@ -12,6 +11,7 @@ use Rattle.answers.specs.declared.answer.Kind.{Kind}
 use Rattle.answers.specs.contracts.answer.Kind.{the_type}
 use Rattle.answers.proofs.answer.refusal_in.Goals as goal
 
+-- the kinds but the first
 abbrev others : List ℕ
 others = 1 ∷ 2 ∷ 3 ∷ 4 ∷ 5 ∷ 6 ∷ 7 ∷ 8 ∷ 9 ∷ 10 ∷ 11 ∷ 12 ∷ 13 ∷ []
 

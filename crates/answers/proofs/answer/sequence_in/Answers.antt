@@ -1,5 +1,4 @@
 -- `answers::answer::sequence_in` meets its contract, by the kind. Assumes nothing.
-use borrow.Author.Rules.{rules}
 use Rattle.answers.proofs.answer.sequence_in.Goals as goal
 
 pub returns-in-Refused : goal.returns-in-Refused

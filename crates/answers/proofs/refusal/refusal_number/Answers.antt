@@ -1,6 +1,5 @@
 -- `answers::refusal::refusal_number` meets its contract, by the refusal. Assumes nothing.
 use mathlib.Core.Path.{ap, sym}
-use borrow.Author.Rules.{rules}
 use Rattle.answers.specs.Refusals.{refusal_number}
 use Rattle.answers.proofs.refusal.refusal_number.Goals as goal
 

@@ -1,11 +1,6 @@
 -- `base::bytes::find_byte` meets its contract: what is found is found among the bytes not yet passed. Assumes nothing.
-use Prim.Native.Nat.{◌-◌}
 use native.Mathlib.Omega.{arith}
-use mathlib.Core.Path.{◌≡◌}
-use lib.ListN.{length, drop}
-use borrow.Author.Rules.{rules}
-use Rattle.base.proofs.CutLaws.{further, further_none, find_turn, find-stop, find_done}
-use Rattle.base.specs.Cuts.{found_of}
+use Rattle.base.proofs.CutLaws.{further_none, find_turn, find-stop, find_done}
 use Rattle.base.proofs.bytes.find_byte.Goals as goal
 
 pub loop-i-init : goal.loop-i-init

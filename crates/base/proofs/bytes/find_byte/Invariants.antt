@@ -1,10 +1,8 @@
 -- `base::bytes::find_byte` meets its contract: what is found is found among the bytes not yet passed. Assumes nothing.
 use Prim.Native.Nat.{◌-◌}
-use native.Mathlib.Omega.{arith}
 use mathlib.Core.Path.{◌≡◌}
 use lib.ListN.{length, drop}
-use borrow.Author.Rules.{rules}
-use Rattle.base.proofs.CutLaws.{further, further_none, find_turn, find-stop, find_done}
+use Rattle.base.proofs.CutLaws.{further}
 use Rattle.base.specs.Cuts.{found_of}
 use Rattle.base.proofs.bytes.find_byte.Given as goal
 

@@ -1,6 +1,5 @@
 -- `base::bytes::same_bytes` meets its contract: bytes of one length are the same if the one begins with the other. Assumes nothing.
 use mathlib.Core.Path.{sym, ◌∙◌}
-use borrow.Author.Rules.{rules}
 use Rattle.base.proofs.ByteLaws.{same_unequal, same-prefix}
 use Rattle.base.proofs.bytes.same_bytes.Goals as goal
 

@@ -1,10 +1,7 @@
 -- `base::bytes::starts_with` meets its contract: the answer is that for the bytes not yet compared. Assumes nothing.
 use Prim.Native.Nat.{◌-◌}
-use native.Mathlib.Omega.{arith}
-use mathlib.Core.Path.{◌≡◌, refl, sym}
+use mathlib.Core.Path.{◌≡◌}
 use lib.ListN.{length, drop}
-use borrow.Author.Rules.{rules}
-use Rattle.base.proofs.ByteLaws.{prefix_longer, prefix_turn, prefix-stop, prefix_done}
 use Rattle.base.specs.Bytes.{prefix}
 use Rattle.base.proofs.bytes.starts_with.Given as goal
 

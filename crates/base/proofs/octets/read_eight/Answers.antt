@@ -1,10 +1,8 @@
 -- `base::octets::read_eight` meets its contract: the octets that are passed are a number that has room for one more. Assumes nothing.
-use Prim.Native.Nat.{◌-◌, ◌≤◌}
 use native.Mathlib.Omega.{arith}
 use mathlib.Core.Path.{ap}
-use borrow.Author.Rules.{rules}
 use borrow.Author.Tests.{eq-eqb, ne_eqb}
-use Rattle.base.proofs.OctetLaws.{Passed, none_passed, one-passed, all_passed, before_eight}
+use Rattle.base.proofs.OctetLaws.{none_passed, one-passed, all_passed, before_eight}
 use Rattle.base.specs.Octets.{eight_of}
 use Rattle.base.specs.declared.octets.Eight.TheVariants.{Number}
 use Rattle.base.proofs.octets.read_eight.Goals as goal

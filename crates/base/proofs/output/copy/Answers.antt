@@ -1,10 +1,7 @@
 -- `base::output::copy` meets its contract: the bytes passed are in place, and the rest of the output is as it was. Assumes nothing.
-use Prim.Native.Nat.{◌-◌, ◌≤◌}
 use native.Mathlib.Omega.{arith}
-use mathlib.Core.Path.{◌≡◌, refl, ◌∙◌}
-use lib.ListN.{length}
-use lib.Seq.{paste, paste-zero}
-use borrow.Author.Rules.{rules}
+use mathlib.Core.Path.{refl, ◌∙◌}
+use lib.Seq.{paste-zero}
 use Rattle.base.proofs.OutputLaws.{paste_turn, paste_done}
 use Rattle.base.proofs.output.copy.Goals as goal
 

@@ -1,11 +1,8 @@
 -- `base::output::copy` meets its contract: the bytes passed are in place, and the rest of the output is as it was. Assumes nothing.
 use Prim.Native.Nat.{◌-◌, ◌≤◌}
-use native.Mathlib.Omega.{arith}
-use mathlib.Core.Path.{◌≡◌, refl, ◌∙◌}
+use mathlib.Core.Path.{◌≡◌}
 use lib.ListN.{length}
-use lib.Seq.{paste, paste-zero}
-use borrow.Author.Rules.{rules}
-use Rattle.base.proofs.OutputLaws.{paste_turn, paste_done}
+use lib.Seq.{paste}
 use Rattle.base.proofs.output.copy.Given as goal
 
 abbrev pub invariant-loop-j : goal.invariant-loop-j

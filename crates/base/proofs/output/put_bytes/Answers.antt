@@ -5,7 +5,6 @@ use mathlib.Core.Bool.{not}
 use native.Mathlib.Omega.{arith}
 use mathlib.Core.Path.{refl}
 use lib.ListN.{length}
-use borrow.Author.Rules.{rules}
 use Rattle.base.proofs.OutputLaws.{has_room, lacks_room, wrote, no_room}
 use Rattle.base.proofs.output.put_bytes.Goals as goal
 use Rattle.base.proofs.output.put_bytes.Goals.{Else-not-has_room}

@@ -3,7 +3,6 @@
 use mathlib.Core.List.{◌++◌}
 use lib.ListN.{length-append}
 use native.Mathlib.Omega.{arith}
-use borrow.Author.Rules.{rules}
 use native.Mathlib.Nat.{mul-le-mul_left}
 use Rattle.cells.proofs.CellLaws.{cell_in}
 use Rattle.cells.proofs.bytes.insert_cell.Goals as goal

@@ -1,10 +1,7 @@
 -- `cells::bytes::remove_cell` meets its contract: each turn moves one byte down by a cell, and the list without the cell at the place reached
 -- stays the same. Assumes nothing.
 use Prim.Native.Nat.{◌*◌, ◌-◌}
-use mathlib.Core.Path.{◌≡◌, refl}
-use native.Mathlib.Omega.{arith}
-use native.Mathlib.Nat.{mul-le-mul_left}
-use Rattle.cells.proofs.CellLaws.{Moving, moved_down, shifted_down}
+use Rattle.cells.proofs.CellLaws.{Moving}
 use Rattle.cells.proofs.bytes.remove_cell.Given as goal
 
 abbrev pub invariant-loop-i : goal.invariant-loop-i

@@ -1,10 +1,10 @@
 -- `cells::bytes::shift_up` meets its contract: each turn moves one byte up by a cell, and the list without the cell at the place reached
 -- stays the same. Assumes nothing.
-use Prim.Native.Nat.{◌*◌, ◌-◌}
+use Prim.Native.Nat.{◌*◌}
 use mathlib.Core.Path.{◌≡◌, refl}
 use native.Mathlib.Omega.{arith}
 use native.Mathlib.Nat.{mul-le-mul_left}
-use Rattle.cells.proofs.CellLaws.{Moving, moved_up, shifted_up}
+use Rattle.cells.proofs.CellLaws.{moved_up, shifted_up}
 use Rattle.cells.proofs.bytes.shift_up.Goals as goal
 
 pub overflow_mul-from : goal.overflow_mul-from

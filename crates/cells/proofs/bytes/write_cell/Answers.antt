@@ -1,7 +1,6 @@
 -- `cells::bytes::write_cell` meets its contract: both fit into the cell, so all of them are put, one behind the other.
 -- Assumes nothing.
 use native.Mathlib.Omega.{arith}
-use borrow.Author.Rules.{rules}
 use Rattle.cells.proofs.CellLaws.{written_both}
 use Rattle.cells.proofs.bytes.write_cell.Goals as goal
 

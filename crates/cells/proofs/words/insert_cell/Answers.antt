@@ -1,7 +1,6 @@
 -- `cells::words::insert_cell` meets its contract: the cells above have moved up, and the cell that is free is written.
 -- Assumes nothing.
 use native.Mathlib.Omega.{arith}
-use borrow.Author.Rules.{rules}
 use native.Mathlib.Nat.{mul-le-mul_left}
 use Rattle.cells.proofs.CellLaws.{cell_in}
 use Rattle.cells.proofs.words.insert_cell.Goals as goal

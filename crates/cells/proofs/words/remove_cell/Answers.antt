@@ -1,10 +1,10 @@
 -- `cells::words::remove_cell` meets its contract: each turn moves one word down by a cell, and the list without the cell at the place reached
 -- stays the same. Assumes nothing.
-use Prim.Native.Nat.{◌*◌, ◌-◌}
+use Prim.Native.Nat.{◌*◌}
 use mathlib.Core.Path.{◌≡◌, refl}
 use native.Mathlib.Omega.{arith}
 use native.Mathlib.Nat.{mul-le-mul_left}
-use Rattle.cells.proofs.CellLaws.{Moving, moved_down, shifted_down}
+use Rattle.cells.proofs.CellLaws.{moved_down, shifted_down}
 use Rattle.cells.proofs.words.remove_cell.Goals as goal
 
 pub overflow_mul-to : goal.overflow_mul-to

@@ -1,10 +1,7 @@
 -- `cells::words::shift_up` meets its contract: each turn moves one word up by a cell, and the list without the cell at the place reached
 -- stays the same. Assumes nothing.
-use Prim.Native.Nat.{◌*◌, ◌-◌}
-use mathlib.Core.Path.{◌≡◌, refl}
-use native.Mathlib.Omega.{arith}
-use native.Mathlib.Nat.{mul-le-mul_left}
-use Rattle.cells.proofs.CellLaws.{Moving, moved_up, shifted_up}
+use Prim.Native.Nat.{◌*◌}
+use Rattle.cells.proofs.CellLaws.{Moving}
 use Rattle.cells.proofs.words.shift_up.Given as goal
 
 abbrev pub invariant-loop-i : goal.invariant-loop-i

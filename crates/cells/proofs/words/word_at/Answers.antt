@@ -1,5 +1,4 @@
 -- `cells::words::word_at` meets its contract. Assumes nothing.
-use borrow.Author.Rules.{rules}
 use Rattle.cells.proofs.CellLaws.{word_of}
 use Rattle.cells.proofs.words.word_at.Goals as goal
 

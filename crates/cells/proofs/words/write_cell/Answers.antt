@@ -1,10 +1,8 @@
 -- `cells::words::write_cell` meets its contract: the words passed are in place, and the rest of the array is as it was. Assumes nothing.
-use Prim.Native.Nat.{◌*◌, ◌-◌, ◌≤◌}
+use Prim.Native.Nat.{◌*◌}
 use native.Mathlib.Omega.{arith}
-use mathlib.Core.Path.{◌≡◌, refl, ◌∙◌}
-use lib.ListN.{length}
-use lib.Seq.{paste, paste-zero}
-use borrow.Author.Rules.{rules}
+use mathlib.Core.Path.{refl, ◌∙◌}
+use lib.Seq.{paste-zero}
 use Rattle.base.proofs.OutputLaws.{paste_turn, paste_done}
 use Rattle.cells.proofs.words.write_cell.Goals as goal
 

@@ -1,5 +1,4 @@
 -- `chp::bytes::chp_bytes_value_length` meets its contract: the value frame ends the message. Assumes nothing.
-use borrow.Author.Rules.{rules}
 use Rattle.chp.proofs.ValueLaws.{value-length}
 use Rattle.chp.proofs.bytes.chp_bytes_value_length.Goals as goal
 

@@ -1,5 +1,4 @@
 -- `chp::client::chp_lent_client_write_kvset` meets its contract: what the entry promises, with header and answer as words. Assumes nothing.
-use borrow.Author.Rules.{rules}
 use Rattle.chp.proofs.ExportLaws.{client-asked}
 use Rattle.chp.proofs.client.chp_lent_client_write_kvset.Goals as goal
 

@@ -1,7 +1,6 @@
 -- `chp::name_tests::chp_bytes_is_key` meets its contract: the answer of the test, as a number. Assumes nothing.
 use mathlib.Core.Bool.{Bool, cond}
 use mathlib.Core.Path.{ap, ◌∙◌}
-use borrow.Author.Rules.{rules}
 use Rattle.chp.proofs.name_tests.chp_bytes_is_key.Goals as goal
 
 pub returns : goal.returns

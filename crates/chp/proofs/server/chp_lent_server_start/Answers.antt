@@ -1,5 +1,4 @@
 -- `chp::server::chp_lent_server_start` meets its contract: what the entry promises, with header and answer as words. Assumes nothing.
-use borrow.Author.Rules.{rules}
 use Rattle.chp.proofs.ExportLaws.{server-began}
 use Rattle.chp.proofs.server.chp_lent_server_start.Goals as goal
 

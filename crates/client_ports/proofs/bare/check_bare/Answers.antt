@@ -12,7 +12,6 @@ use Rattle.base.specs.Checks.{Check, first_refusal}
 use Rattle.framing.specs.Splits.{body_in}
 use Rattle.ports.proofs.PortLaws.{empty_pass, empty-stop}
 use Rattle.ports.specs.Ports.{bare_checks}
-use borrow.Author.Rules.{rules}
 use Rattle.client_ports.proofs.bare.check_bare.Goals as goal
 use Rattle.client_ports.proofs.bare.check_bare.Goals.{Else-body-ne0, Start}
 

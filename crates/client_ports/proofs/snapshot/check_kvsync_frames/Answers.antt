@@ -16,7 +16,6 @@ use Rattle.keys.specs.Keys.{is_key, under}
 use Rattle.ports.proofs.PortLaws.{told, unnumbered_stop, numbered_pass}
 use Rattle.ports.specs.Bodies.{fields_at}
 use Rattle.ports.specs.Ports.{bare_checks, row_value_checks, kvsync_checks}
-use borrow.Author.Rules.{rules}
 use Rattle.client_ports.proofs.snapshot.check_kvsync_frames.Goals as goal
 use Rattle.client_ports.proofs.snapshot.check_kvsync_frames.Goals.{Else-not-is_key, Else-not-is_under, In-Accept, In-By, Start}
 

@@ -11,7 +11,6 @@ use Rattle.base.proofs.CheckLaws.{Left, pass, stop, done, asked}
 use Rattle.base.specs.Checks.{Check, first_refusal}
 use Rattle.base.proofs.ByteLaws.{is_empty, not_empty}
 use Rattle.ports.specs.Ports.{row_value_checks}
-use borrow.Author.Rules.{rules}
 use Rattle.client_ports.proofs.snapshot.check_row_value.Goals as goal
 use Rattle.client_ports.proofs.snapshot.check_row_value.Goals.{Else-value-eq0, Start}
 

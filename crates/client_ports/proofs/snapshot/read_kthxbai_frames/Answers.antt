@@ -6,7 +6,6 @@ use mathlib.Core.List.{List}
 use mathlib.Core.Path.{◌≡◌, refl, sym, ap, ◌∙◌}
 use lib.Dec.{leb}
 use lib.ListN.{drop}
-use borrow.Author.Rules.{rules}
 use Rattle.answers.proofs.VerdictLaws.{accepted, refused}
 use Rattle.answers.specs.declared.refusal.Refusal.{Refusal}
 use Rattle.base.proofs.CheckLaws.{Left, pass, stop, asked}
@@ -30,6 +29,7 @@ fields s = fields_at s.args.msg.now s.args.places
 abbrev table : (c : Start) → List (Check Refusal)
 table s = kthxbai_checks s.args.subtree.now (fields s)
 
+-- the answer, with so many checks passed
 abbrev Passed : ℕ → Start → Type 0
 Passed n s = Left (end_of (fields s)) (end_of (fields s) (first_refusal (table s))) (drop n (table s))
 
@@ -42,6 +42,7 @@ past-subtree c = pass (whole ((goal.at.Else-not-same_bytes c).Start)) (told c.bo
 numbered-by : (c : In-By) → By c.in-By.n ≡ numbered_of c.body-2.result.now
 numbered-by c = sym c.in-By.is ∙ c.read_sequence.ensures
 
+-- the checks behind that of the number
 abbrev bare : (c : Start) → List (Check Refusal)
 bare s = bare_checks (fields s).uuid (fields s).properties
 

@@ -20,7 +20,6 @@ use Rattle.numbers.specs.declared.sequence.Numbered.TheVariants.{By}
 use Rattle.ports.proofs.PortLaws.{empty_pass, empty-stop, unnumbered_stop, numbered_pass, number_is}
 use Rattle.ports.specs.Bodies.{fields_at}
 use Rattle.ports.specs.Ports.{bare_checks, hugz_checks}
-use borrow.Author.Rules.{rules}
 use Rattle.client_ports.proofs.subscriber.check_hugz_frames.Goals as goal
 use Rattle.client_ports.proofs.subscriber.check_hugz_frames.Goals.{Else-not-is_zero, In-Accept, In-By, Start}
 

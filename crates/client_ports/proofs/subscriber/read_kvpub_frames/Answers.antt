@@ -6,7 +6,6 @@ use mathlib.Core.List.{List}
 use mathlib.Core.Path.{◌≡◌, refl, sym, ap, ◌∙◌}
 use lib.Dec.{leb}
 use lib.ListN.{drop}
-use borrow.Author.Rules.{rules}
 use Rattle.answers.proofs.VerdictLaws.{accepted, refused}
 use Rattle.answers.specs.Refusals.{verdict}
 use Rattle.answers.specs.declared.refusal.Refusal.{Refusal}
@@ -31,6 +30,7 @@ fields s = fields_at s.args.msg.now s.args.places
 abbrev table : (c : Start) → List (Check Refusal)
 table s = kvpub_checks (fields s)
 
+-- the answer, with so many checks passed
 abbrev Passed : ℕ → Start → Type 0
 Passed n s = Left (kvpub_of (fields s)) (kvpub_of (fields s) (first_refusal (table s))) (drop n (table s))
 

@@ -1,6 +1,5 @@
 -- `client_snapshot::plan::plan_kvsync` meets its contract: the phase, and then the row. Assumes nothing.
 use mathlib.Core.List.{[]}
-use borrow.Author.Rules.{rules}
 use Rattle.client_calls.specs.Effects.{sync}
 use Rattle.client_effects.proofs.PlanLaws.{too_late, still_waits}
 use Rattle.client_effects.specs.Plans.{effect_plan}

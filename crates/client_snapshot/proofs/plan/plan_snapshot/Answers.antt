@@ -3,7 +3,6 @@
 use native.Mathlib.Omega.{arith}
 use mathlib.Core.Bool.{not}
 use mathlib.Core.Path.{◌≡◌, sym, ◌∙◌}
-use borrow.Author.Rules.{rules}
 use Rattle.answers.proofs.VerdictLaws.{accepted, refused}
 use Rattle.base.specs.Bytes.{Bytes}
 use Rattle.base.specs.Checks.{first_refusal}
@@ -31,6 +30,7 @@ message s = s.args.msg.now
 well : (c : In-Accept) → WellFormed (state ((goal.at.In-Accept c).Start))
 well c = accepted (first_refusal (ill_forms (state ((goal.at.In-Accept c).Start)))) (sym c.in-Accept.is ∙ c.check_state.ensures)
 
+-- what is read of the message
 read : (c : After-read_sent) → c.read_sent.result ≡ sent_of (fields_of (message ((goal.at.After-read_sent c).Start))) (first_refusal (snapshot_port (subtree_of (state ((goal.at.After-read_sent c).Start))) (message ((goal.at.After-read_sent c).Start))))
 read c = sent_is (message ((goal.at.After-read_sent c).Start)) c.args.split c.requires c.subtree_in-own.ensures c.read_sent.ensures
 

@@ -27,6 +27,7 @@ past1 c = pass (whole ((goal.at.Else-not-is_kept c).Start)) (asked c.is_kept.ens
 past2 : (c : Else-not-is_time) → Left verdict (verdict (first_refusal (table ((goal.at.Else-not-is_time c).Start)))) (drop 2 (table ((goal.at.Else-not-is_time c).Start)))
 past2 c = pass (past1 ((goal.at.Else-not-is_time c).Else-not-is_kept)) (asked c.is_time.ensures (ap not c.if-not-is_time.false))
 
+-- a client that waits, at another number than 0
 waits : (phase : ℕ) {r z t : Bool} → r ≡ z → (is_waiting phase && not r) ≡ t → (is_waiting phase && not z) ≡ t
 waits phase e h = rw (← e) h
 

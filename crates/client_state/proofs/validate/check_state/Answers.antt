@@ -2,7 +2,6 @@
 -- nothing.
 use mathlib.Core.List.{List, ◌++◌}
 use mathlib.Core.Path.{◌≡◌, sym, ap, ◌∙◌}
-use borrow.Author.Rules.{rules}
 use Rattle.answers.proofs.VerdictLaws.{accepted, past_accepted, past_refused}
 use Rattle.answers.specs.Refusals.{verdict}
 use Rattle.answers.specs.declared.refusal.Refusal.{Refusal}
@@ -15,6 +14,7 @@ use Rattle.row_cells.specs.Faults.{row_faults}
 use Rattle.client_state.proofs.validate.check_state.Goals as goal
 use Rattle.client_state.proofs.validate.check_state.Goals.{In-Accept, In-Accept-check_subtree, Start}
 
+-- ---- the tables of checks
 abbrev rows : (c : Start) → List (Check Refusal)
 rows s = row_faults s.args.header.count s.args.bytes.now s.args.lengths.now
 
@@ -24,6 +24,7 @@ subtree s = subtree_faults (lent s.args.bytes.now s.args.lengths.now s.args.subt
 abbrev header : (c : Start) → List (Check Refusal)
 header s = header_faults s.args.header
 
+-- ---- what passed
 well-rows : (c : In-Accept) → Accept ≡ verdict (first_refusal (rows ((goal.at.In-Accept c).Start)))
 well-rows c = sym c.in-Accept.is ∙ c.check_rows.ensures
 

@@ -4,7 +4,6 @@ use mathlib.Core.List.{List}
 use mathlib.Core.Bool.{not}
 use mathlib.Core.Path.{◌≡◌, refl, ap, ◌∙◌}
 use lib.ListN.{drop}
-use borrow.Author.Rules.{rules}
 use borrow.Author.Tests.{lt-ltb, le-ltb}
 use Rattle.answers.specs.Refusals.{verdict}
 use Rattle.answers.specs.declared.refusal.Refusal.{Refusal}
@@ -30,6 +29,7 @@ whole s = record { is = refl }
 past1 : (c : Else-length-gt-SUBTREE_ROOM) → Left verdict (verdict (first_refusal (table ((goal.at.Else-length-gt-SUBTREE_ROOM c).Start)))) (drop 1 (table ((goal.at.Else-length-gt-SUBTREE_ROOM c).Start)))
 past1 c = pass (whole ((goal.at.Else-length-gt-SUBTREE_ROOM c).Start)) (le-ltb _ _ c.if-length-gt-SUBTREE_ROOM.false)
 
+-- what is tested is the part of the array that counts
 subtree-test : (c : After-is_subtree) → c.is_subtree.result ≡ is_subtree (subtree_of (state ((goal.at.After-is_subtree c).Start)))
 subtree-test c = c.is_subtree.ensures ∙ ap is_subtree c.subtree_in-own.ensures
 

@@ -2,7 +2,6 @@
 -- Assumes nothing.
 use native.Mathlib.Omega.{arith}
 use mathlib.Core.Path.{◌≡◌, sym, ◌∙◌}
-use borrow.Author.Rules.{rules}
 use Rattle.answers.proofs.VerdictLaws.{accepted, refused}
 use Rattle.base.specs.Bytes.{Bytes}
 use Rattle.base.specs.Checks.{first_refusal}
@@ -30,6 +29,7 @@ message s = s.args.msg.now
 well : (c : In-Accept) → WellFormed (state ((goal.at.In-Accept c).Start))
 well c = accepted (first_refusal (ill_forms (state ((goal.at.In-Accept c).Start)))) (sym c.in-Accept.is ∙ c.check_state.ensures)
 
+-- what is read of the message
 read : (c : After-read_published) → c.read_published.result ≡ published_of (fields_of (message ((goal.at.After-read_published c).Start))) (first_refusal (subscriber_port (message ((goal.at.After-read_published c).Start))))
 read c = published_is (message ((goal.at.After-read_published c).Start)) c.args.split c.requires c.read_published.ensures
 

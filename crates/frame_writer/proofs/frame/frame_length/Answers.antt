@@ -1,6 +1,5 @@
 -- `frame_writer::frame::frame_length` meets its contract, by the two sizes of a head. Assumes nothing.
 use native.Mathlib.Omega.{arith}
-use borrow.Author.Rules.{rules}
 use borrow.Author.Tests.{le-leb, lt-leb}
 use Rattle.frame_writer.proofs.frame.frame_length.Goals as goal
 

@@ -6,7 +6,6 @@ use native.Mathlib.Omega.{arith}
 use mathlib.Core.Path.{◌≡◌}
 use lib.Dec.{leb}
 use lib.ListN.{length}
-use borrow.Author.Rules.{rules}
 use Rattle.base.proofs.OutputLaws.{has_room, lacks_room, no_room, both}
 use Rattle.frames.proofs.FrameLaws.{frame-room}
 use Rattle.frames.specs.Messages.{frame}

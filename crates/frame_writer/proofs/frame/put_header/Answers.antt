@@ -1,5 +1,4 @@
 -- `frame_writer::frame::put_header` meets its contract: a short head is two bytes and a long one nine. Assumes nothing.
-use borrow.Author.Rules.{rules}
 use borrow.Author.Tests.{le-leb, lt-leb}
 use Rattle.base.specs.Octets.{octets}
 use Rattle.frames.proofs.FrameLaws.{listed_octets}

@@ -2,7 +2,6 @@
 use native.Mathlib.Omega.{arith}
 use mathlib.Core.Path.{refl, sym, ◌∙◌}
 use lib.ListN.{get_or}
-use borrow.Author.Rules.{rules}
 use Rattle.frames.proofs.StepLaws.{step_none, step_flag, flagged-refused}
 use Rattle.frames.specs.Steps.{flagged}
 use Rattle.frames.proofs.step.first_frame.Goals as goal

@@ -2,7 +2,6 @@
 use native.Mathlib.Omega.{arith}
 use mathlib.Core.Path.{sym, ◌∙◌}
 use lib.Seq.{length-take-le}
-use borrow.Author.Rules.{rules}
 use Rattle.frames.proofs.StepLaws.{long_none, size_never, long_read}
 use Rattle.frames.proofs.step.long_size.Goals as goal
 

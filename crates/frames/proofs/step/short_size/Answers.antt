@@ -1,7 +1,6 @@
 -- `frames::step::short_size` meets its contract: the size octet is there or the frame is broken. Assumes nothing.
 use native.Mathlib.Omega.{arith}
 use mathlib.Core.Path.{sym, ◌∙◌}
-use borrow.Author.Rules.{rules}
 use Rattle.frames.proofs.StepLaws.{short_none, short_some}
 use Rattle.frames.proofs.step.short_size.Goals as goal
 

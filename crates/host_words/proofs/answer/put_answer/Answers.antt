@@ -1,6 +1,5 @@
 -- `host_words::answer::put_answer` meets its contract: each word is what its function gives. Assumes nothing.
 use mathlib.Core.Path.{refl}
-use borrow.Author.Rules.{rules}
 use Rattle.host_words.proofs.answer.put_answer.Goals as goal
 
 pub returns : goal.returns

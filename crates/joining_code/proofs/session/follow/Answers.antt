@@ -1,5 +1,4 @@
 -- `joining_code::session::follow` meets its contract: what each call promises is one step of the run. Assumes nothing.
-use borrow.Author.Rules.{rules}
 use Rattle.joining_code.proofs.CodeProof.{client_steps}
 use Rattle.joining_code.specs.Runs.ClientRan.{began, called}
 use Rattle.joining_code.proofs.session.follow.Goals as goal

@@ -1,5 +1,4 @@
 -- `joining_code::session::serve` meets its contract: what each call promises is one step of the run. Assumes nothing.
-use borrow.Author.Rules.{rules}
 use Rattle.joining_code.proofs.CodeProof.{server_steps}
 use Rattle.joining_code.specs.Runs.ServerRan.{began, called}
 use Rattle.joining_code.proofs.session.serve.Goals as goal

@@ -4,7 +4,6 @@ use Prim.Native.Nat.{◌+◌, ◌≤◌}
 use native.Mathlib.Omega.{arith}
 use mathlib.Core.Path.{◌≡◌, sym, ◌∙◌}
 use lib.ListN.{length}
-use borrow.Author.Rules.{rules}
 use Rattle.messages.proofs.IdentityLaws.{no_rest, rest_is}
 use Rattle.frames.proofs.StepLaws.{step_known}
 use Rattle.frames.specs.Steps.{step_of}

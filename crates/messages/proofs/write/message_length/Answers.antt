@@ -1,7 +1,6 @@
 -- `messages::write::message_length` meets its contract: a sum of clamped lengths is the clamped sum. Assumes nothing.
 use Prim.Native.Nat.{◌+◌}
 use mathlib.Core.Path.{refl}
-use borrow.Author.Rules.{rules}
 use Rattle.base.proofs.OutputLaws.{clamped_sum}
 use Rattle.frames.specs.Messages.{frame_length}
 use Rattle.messages.proofs.write.message_length.Goals as goal

@@ -7,7 +7,6 @@ use native.Mathlib.Omega.{arith}
 use mathlib.Core.Path.{◌≡◌}
 use lib.Dec.{leb}
 use lib.ListN.{length}
-use borrow.Author.Rules.{rules}
 use Rattle.base.proofs.OctetLaws.{length-octets}
 use Rattle.base.proofs.OutputLaws.{has_room, lacks_room, no_room}
 use Rattle.base.specs.Octets.{octets}

@@ -1,6 +1,5 @@
 -- `numbers::sequence::next_number` meets its contract: one more, as long as the number is not the last. Assumes nothing.
 use native.Mathlib.Numerals.{add-one}
-use borrow.Author.Rules.{rules}
 use borrow.Author.Tests.{lt-ltb, le-ltb}
 use Rattle.numbers.proofs.sequence.next_number.Goals as goal
 

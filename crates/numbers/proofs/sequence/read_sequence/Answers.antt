@@ -1,6 +1,5 @@
 -- `numbers::sequence::read_sequence` meets its contract: eight octets are a number, as a sequence. Assumes nothing.
 use mathlib.Core.Path.{sym, ◌∙◌}
-use borrow.Author.Rules.{rules}
 use Rattle.numbers.proofs.SequenceLaws.{numbered, unnumbered}
 use Rattle.numbers.proofs.sequence.read_sequence.Goals as goal
 

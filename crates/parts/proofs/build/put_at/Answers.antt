@@ -1,7 +1,6 @@
 -- `parts::build::put_at` meets its contract: the place that the frame's writer gives back tells whether the frame was written. Assumes nothing.
 use mathlib.Core.Bool.{true, false}
 use Rattle.parts.proofs.BuildLaws.{not_put, is_put}
-use borrow.Author.Rules.{rules}
 use Rattle.parts.proofs.build.put_at.Goals as goal
 
 pub returns-then-next-at : goal.returns-then-next-at

@@ -1,6 +1,5 @@
 -- `parts::build::put_part` meets its contract: only an open message takes a part. Assumes nothing.
 use Rattle.parts.proofs.BuildLaws.{at_open}
-use borrow.Author.Rules.{rules}
 use Rattle.parts.proofs.build.put_part.Goals as goal
 
 pub returns-in-Open : goal.returns-in-Open

@@ -1,6 +1,5 @@
 -- `parts::lent::add_part` meets its contract: the message that the numbers tell, with the part. Assumes nothing.
 use Rattle.parts.proofs.NumberLaws.{is_added}
-use borrow.Author.Rules.{rules}
 use Rattle.parts.proofs.lent.add_part.Goals as goal
 
 pub returns : goal.returns

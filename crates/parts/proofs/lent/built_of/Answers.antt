@@ -4,7 +4,6 @@ use mathlib.Core.Path.{sym, ap}
 use lib.ListN.{get_or}
 use Rattle.parts.proofs.NumberLaws.{void_stage}
 use Rattle.parts.specs.Numbers.{staged}
-use borrow.Author.Rules.{rules}
 use Rattle.parts.proofs.lent.built_of.Goals as goal
 
 pub returns-in-0 : goal.returns-in-0

@@ -1,5 +1,4 @@
 -- `parts::lent::frame_after` meets its contract: the frame where the one before ends, told as numbers. Assumes nothing.
-use mathlib.Core.Logic.{⊎_elim}
 use Prim.Native.Nat.{ℕ}
 use mathlib.Core.Bool.{Bool, cond}
 use mathlib.Core.Path.{◌≡◌, sym, ap, ◌∙◌}

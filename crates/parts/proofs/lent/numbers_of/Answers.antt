@@ -1,7 +1,6 @@
 -- `parts::lent::numbers_of` meets its contract, case by case. Assumes nothing.
 use mathlib.Core.Path.{sym, ap}
 use Rattle.parts.specs.Numbers.{numbers_of}
-use borrow.Author.Rules.{rules}
 use Rattle.parts.proofs.lent.numbers_of.Goals as goal
 
 pub returns-in-Open : goal.returns-in-Open

@@ -2,7 +2,6 @@
 use mathlib.Core.Path.{ap, ◌∙◌}
 use Rattle.frames.specs.Runs.{message_in}
 use Rattle.parts.proofs.WalkLaws.{begins_told}
-use borrow.Author.Rules.{rules}
 use Rattle.parts.proofs.walk.begins_message.Goals as goal
 
 pub returns : goal.returns

@@ -4,7 +4,6 @@ use mathlib.Core.Path.{ap}
 use mathlib.Core.Bool.{not}
 use Prim.Native.Nat.{◌^◌, ◌<◌}
 use mathlib.Core.Bool.{true}
-use mathlib.Core.Logic.{⊎_elim}
 use mathlib.Core.Path.{◌≡◌, sym, ◌∙◌}
 use lib.ListN.{length}
 use Rattle.frame_reader.specs.Places.{step_at}
@@ -15,6 +14,7 @@ use borrow.Author.Rules.{rules}
 use Rattle.parts.proofs.walk.next_frame.Goals as goal
 use Rattle.parts.proofs.walk.next_frame.Goals.{In-Frame, Joined-not-inside, then-not-inside+else-not-begins_message, else-not-inside}
 
+-- the frame that was found
 is : (c : In-Frame) → Frame c.in-Frame.start c.in-Frame.len c.in-Frame.more ≡ step_at c.args.s.now c.args.at
 is c = sym c.in-Frame.is ∙ c.frame_at.ensures
 

@@ -1,5 +1,4 @@
 -- `ports::frame_count::check_framing` meets its contract: the framing, and then the count of frames. Assumes nothing.
-use borrow.Author.Rules.{rules}
 use Rattle.ports.proofs.PortLaws.{stop-broken, stop_surplus, stop_count, pass_count}
 use Rattle.ports.proofs.frame_count.check_framing.Goals as goal
 

@@ -6,7 +6,6 @@ use Rattle.answers.specs.Refusals.{verdict}
 use Rattle.base.proofs.CheckLaws.{Left, pass, stop, done, asked}
 use Rattle.base.specs.Checks.{first_refusal}
 use Rattle.ports.specs.Ports.{tick_checks}
-use borrow.Author.Rules.{rules}
 use Rattle.ports.proofs.time.check_tick.Goals as goal
 use Rattle.ports.proofs.time.check_tick.Goals.{Start}
 

@@ -1,6 +1,5 @@
 -- `ports::update::check_payload` meets its contract: what is read tells whether it is refused. Assumes nothing.
 use mathlib.Core.Path.{sym, ap, ◌∙◌}
-use borrow.Author.Rules.{rules}
 use Rattle.answers.specs.Refusals.{verdict}
 use Rattle.ports.proofs.PortLaws.{update-refused, update-lasting}
 use Rattle.ports.proofs.update.check_payload.Goals as goal

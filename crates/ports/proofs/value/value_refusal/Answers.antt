@@ -1,6 +1,5 @@
 -- `ports::value::value_refusal` meets its contract: the number of the framing's verdict. Assumes nothing.
 use mathlib.Core.Path.{ap, ◌∙◌}
-use borrow.Author.Rules.{rules}
 use Rattle.answers.specs.Refusals.{verdict_number}
 use Rattle.ports.proofs.PortLaws.{verdict_is}
 use Rattle.ports.proofs.value.value_refusal.Goals as goal

@@ -1,9 +1,8 @@
 -- `properties::decimal::read_decimal` meets its contract: the digits passed are the number so far, which is within bounds. Assumes nothing.
-use Prim.Native.Nat.{◌+◌, ◌-◌, ◌*◌, ◌≤◌, ◌<◌}
+use Prim.Native.Nat.{◌+◌, ◌*◌, ◌≤◌, ◌<◌}
 use native.Mathlib.Omega.{arith}
 use mathlib.Core.Path.{◌≡◌, sym}
-use lib.ListN.{length, get_or, drop}
-use borrow.Author.Rules.{rules}
+use lib.ListN.{get_or, drop}
 use Rattle.properties.proofs.DecimalLaws.{digits_left, no_digits, too_many, digits_begin, digit_turn, digit_low, digit_high, digits_done, too_large}
 use Rattle.properties.specs.Decimals.{decimal_of}
 use Rattle.properties.proofs.decimal.read_decimal.Goals as goal

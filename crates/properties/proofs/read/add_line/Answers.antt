@@ -1,5 +1,4 @@
 -- `properties::read::add_line` meets its contract, by what the line says and what the lines before it said. Assumes nothing.
-use borrow.Author.Rules.{rules}
 use Rattle.properties.proofs.read.add_line.Goals as goal
 
 pub returns-in-Other : goal.returns-in-Other

@@ -6,7 +6,6 @@ use native.Mathlib.Omega.{arith}
 use mathlib.Core.Path.{◌≡◌, sym, ◌∙◌}
 use lib.ListN.{length}
 use lib.Seq.{length-take-le}
-use borrow.Author.Rules.{rules}
 use Rattle.base.proofs.CutLaws.{cut_at}
 use Rattle.base.specs.Cuts.{found_of}
 use Rattle.base.specs.declared.bytes.Position.TheVariants.{At, Nowhere}

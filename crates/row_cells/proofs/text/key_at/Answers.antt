@@ -4,7 +4,6 @@ use mathlib.Core.Path.{ap, ◌∙◌}
 use lib.ListN.{take}
 use Rattle.cells.specs.Cells.{cell_at}
 use Rattle.row_cells.specs.Sizes.{cell_size}
-use borrow.Author.Rules.{rules}
 use Rattle.row_cells.proofs.text.key_at.Goals as goal
 
 pub returns : goal.returns

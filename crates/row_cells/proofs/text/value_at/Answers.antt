@@ -5,7 +5,6 @@ use lib.ListN.{take, drop}
 use Rattle.cells.specs.Cells.{cell_at}
 use Rattle.keys.specs.Keys.{key_room}
 use Rattle.row_cells.specs.Sizes.{cell_size}
-use borrow.Author.Rules.{rules}
 use Rattle.row_cells.proofs.text.value_at.Goals as goal
 
 pub returns : goal.returns

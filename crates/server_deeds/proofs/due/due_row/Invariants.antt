@@ -1,10 +1,8 @@
 -- `server_deeds::due::due_row` meets its contract: what is found is right for the rows from the place reached on. Assumes
 -- nothing.
 use Prim.Native.Nat.{◌≤◌}
-use native.Mathlib.Omega.{arith}
-use mathlib.Core.Path.{◌≡◌, sym, ◌∙◌}
+use mathlib.Core.Path.{◌≡◌}
 use lib.ListN.{drop}
-use Rattle.server_deeds.proofs.DuePlaceLaws.{expiry_count, expiry_is, due_end, due_step}
 use Rattle.server_deeds.specs.DuePlaces.{due_from, expiries_of}
 use Rattle.server_deeds.proofs.due.due_row.Given as goal
 

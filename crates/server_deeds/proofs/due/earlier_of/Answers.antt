@@ -1,5 +1,4 @@
 -- `server_deeds::due::earlier_of` meets its contract, case by case. Assumes nothing.
-use borrow.Author.Rules.{rules}
 use mathlib.Core.Path.{ap}
 use mathlib.Core.Bool.{not}
 use Rattle.server_deeds.proofs.DuePlaceLaws.{not_due, only_due, goes_later, goes_first}

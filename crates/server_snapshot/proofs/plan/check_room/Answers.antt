@@ -1,7 +1,6 @@
 -- `server_snapshot::plan::check_room` meets its contract: the length of the snapshot is held against the output. Assumes
 -- nothing.
 use lib.ListN.{length}
-use borrow.Author.Rules.{rules}
 use Rattle.framing.specs.Splits.{body_in}
 use Rattle.server_snapshot.proofs.RequestLaws.{too_long, has_room}
 use Rattle.server_snapshot.proofs.RowLaws.{snapshot-short}

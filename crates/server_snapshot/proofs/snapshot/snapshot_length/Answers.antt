@@ -1,10 +1,9 @@
 -- `server_snapshot::snapshot::snapshot_length` meets its contract: the total is that of the rows from the place reached
 -- on. Assumes nothing.
-use Prim.Native.Nat.{ℕ, ◌≤◌, ◌-◌, min}
+use Prim.Native.Nat.{ℕ, ◌-◌, min}
 use native.Mathlib.Omega.{arith}
 use mathlib.Core.Path.{◌≡◌, refl, sym, ap, ◌∙◌}
 use lib.ListN.{drop}
-use borrow.Author.Rules.{rules}
 use Rattle.base.specs.Output.{largest}
 use Rattle.row_cells.proofs.TextLaws.{key-most_at}
 use Rattle.rows.specs.Rows.{Rows}

@@ -1,16 +1,10 @@
 -- `server_snapshot::snapshot::snapshot_length` meets its contract: the total is that of the rows from the place reached
 -- on. Assumes nothing.
-use Prim.Native.Nat.{ℕ, ◌≤◌, ◌-◌, min}
-use native.Mathlib.Omega.{arith}
-use mathlib.Core.Path.{◌≡◌, refl, sym, ap, ◌∙◌}
+use Prim.Native.Nat.{◌≤◌, min}
+use mathlib.Core.Path.{◌≡◌}
 use lib.ListN.{drop}
-use borrow.Author.Rules.{rules}
 use Rattle.base.specs.Output.{largest}
-use Rattle.row_cells.proofs.TextLaws.{key-most_at}
-use Rattle.rows.specs.Rows.{Rows}
-use Rattle.server_calls.proofs.SnapshotLaws.{length_end, length_in, length-out}
 use Rattle.server_calls.specs.Snapshots.{snapshot_length}
-use Rattle.server_snapshot.proofs.RowLaws.{length-rows, length-row}
 use Rattle.server_snapshot.specs.Requests.{length_rows}
 use Rattle.server_snapshot.proofs.snapshot.snapshot_length.Given as goal
 

@@ -1,5 +1,4 @@
 -- `server_snapshot::snapshot::write_row` meets its contract: the identity, and the KVSYNC after it. Assumes nothing.
-use borrow.Author.Rules.{rules}
 use Rattle.base.proofs.OutputLaws.{both}
 use Rattle.messages.specs.Fields.{bytes_of, kvsync}
 use Rattle.server_snapshot.proofs.snapshot.write_row.Goals as goal

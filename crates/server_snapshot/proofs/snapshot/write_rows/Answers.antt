@@ -1,11 +1,7 @@
 -- `server_snapshot::snapshot::write_rows` meets its contract: the rows before the place reached are written. Assumes
 -- nothing.
-use Prim.Native.Nat.{◌≤◌, ◌-◌}
 use native.Mathlib.Omega.{arith}
-use mathlib.Core.Logic.{⊎_elim}
 use mathlib.Core.Path.{refl, sym, ◌∙◌}
-use lib.ListN.{take}
-use borrow.Author.Rules.{rules}
 use Rattle.base.proofs.OutputLaws.{kept_length}
 use Rattle.base.specs.Output.{Written}
 use Rattle.row_cells.proofs.TextLaws.{key-most_at, value-most_at}

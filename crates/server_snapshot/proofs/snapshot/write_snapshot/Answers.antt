@@ -1,5 +1,4 @@
 -- `server_snapshot::snapshot::write_snapshot` meets its contract: the rows, and KTHXBAI after them. Assumes nothing.
-use borrow.Author.Rules.{rules}
 use Rattle.server_calls.proofs.SnapshotLaws.{rows_fit, snapshot-written}
 use Rattle.server_state.specs.Views.{lent, row_list}
 use Rattle.server_state.specs.declared.Server.{Server}

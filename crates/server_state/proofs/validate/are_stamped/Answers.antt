@@ -1,10 +1,8 @@
 -- `server_state::validate::are_stamped` meets its contract: the flag tells of the rows passed, and of all at the end. Assumes nothing.
-use Prim.Native.Nat.{◌≤◌, ◌-◌}
 use native.Mathlib.Omega.{arith}
 use mathlib.Core.List.{[]}
-use mathlib.Core.Path.{◌≡◌, refl, ap, ◌∙◌}
+use mathlib.Core.Path.{refl, ap, ◌∙◌}
 use lib.Dec.{ltb}
-use lib.ListN.{take}
 use lib.Seq.{take_all}
 use Rattle.base.specs.Bytes.{every}
 use Rattle.cells.proofs.CellLaws.{length-cells, cell-at}

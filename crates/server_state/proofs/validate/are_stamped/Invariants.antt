@@ -1,17 +1,11 @@
 -- `server_state::validate::are_stamped` meets its contract: the flag tells of the rows passed, and of all at the end. Assumes nothing.
 use Prim.Native.Nat.{◌≤◌, ◌-◌}
-use native.Mathlib.Omega.{arith}
-use mathlib.Core.List.{[]}
-use mathlib.Core.Path.{◌≡◌, refl, ap, ◌∙◌}
-use lib.Dec.{ltb}
+use mathlib.Core.Path.{◌≡◌}
 use lib.ListN.{take}
-use lib.Seq.{take_all}
 use Rattle.base.specs.Bytes.{every}
-use Rattle.cells.proofs.CellLaws.{length-cells, cell-at}
-use Rattle.cells.specs.Cells.{cells, cell_at}
-use Rattle.server_state.proofs.FormLaws.{stamped-more}
+use Rattle.cells.specs.Cells.{cells}
 use Rattle.server_state.specs.IllFormed.{stamped}
-use Rattle.server_state.specs.Stamps.{stamp_count, is_expiry}
+use Rattle.server_state.specs.Stamps.{stamp_count}
 use Rattle.server_state.proofs.validate.are_stamped.Given as goal
 
 abbrev pub invariant-loop-i : goal.invariant-loop-i
