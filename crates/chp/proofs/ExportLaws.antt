@@ -2,9 +2,11 @@
 -- words as they are. Assumes nothing.
 use Prim.Native.Nat.{ℕ}
 use mathlib.Core.List.{List}
-use mathlib.Core.Path.{◌≡◌, refl, sym, ap}
+use mathlib.Core.Path.{◌≡◌, refl, sym, ap, ◌∙◌}
+use lib.ListN.{replicate, take}
 use Rattle.answers.specs.declared.answer.Answer.{Answer}
 use Rattle.base.specs.Bytes.{Bytes}
+use Rattle.base.specs.Output.{put}
 use Rattle.chp.specs.Exports.{ServerBegan, ServerAnswered, ClientBegan, ClientAnswered}
 use Rattle.client_calls.specs.Answers.{answer_for as client_answer}
 use Rattle.client_calls.specs.Calls.{Call as ClientCall}
@@ -16,6 +18,7 @@ use Rattle.host_words.proofs.WordLaws.{in_words}
 use Rattle.host_words.specs.Answers.{answer_words}
 use Rattle.host_words.specs.Clients.{hosted_client, header_in as client_header_in, header_words as client_header_words}
 use Rattle.host_words.specs.Servers.{hosted_server, header_in as server_header_in, header_words as server_header_words}
+use Rattle.keys.specs.Keys.{key_room}
 use Rattle.server_calls.specs.Answers.{answer_for as server_answer}
 use Rattle.server_calls.specs.Calls.{Call as ServerCall}
 use Rattle.server_calls.specs.Promises.{Began as ServerEntryBegan, Answered as ServerEntryAnswered}
@@ -57,3 +60,9 @@ module _ {a : Answer} {words : List ℕ} (told : words ≡ answer_words a) where
       pub client-answered : {header' : List ℕ} → ClientEntryAnswered (client bytes lengths subtree h) x out (client bytes' lengths' subtree h') a out'
           → header' ≡ client_header_words h' → ClientAnswered (hosted_client bytes lengths subtree header) x out (hosted_client bytes' lengths' subtree header') words out'
       client-answered {header'} answered put = client-asked answered (client_header_in header') (sym (ap client_header_in put))
+
+-- what stands in the array of a subtree, by the header as words
+pub padded_as_words : (h : ClientHeader) {subtree : Bytes} {header : List ℕ} → subtree ≡ put (replicate key_room 0) 0 (take h.subtree_length subtree) → header ≡ client_header_words h
+    → subtree ≡ put (replicate key_room 0) 0 (take (client_header_in header).subtree_length subtree)
+padded_as_words h {subtree} padded header_put =
+    padded ∙ ap (λ (f : ClientHeader). put (replicate key_room 0) 0 (take f.subtree_length subtree)) (sym (ap client_header_in header_put))

@@ -1,9 +1,12 @@
 // The client's calls on a state that a host lends: its arrays, and its header and the answer as arrays of words.
 ghost use Rattle.std.specs.Prelude.{[], ◌≡◌, length, replicate};
+ghost use Rattle.base.specs.Output.{put};
 ghost use Rattle.chp.specs.Exports.{ClientBegan, ClientAnswered};
 ghost use Rattle.client_calls.specs.Calls.{snapshot as synced, subscriber as heard, ask as asked, lookup as wanted};
 ghost use Rattle.client_calls.specs.Calls.{write_icanhaz, write_kvset};
+ghost use Rattle.client_state.specs.Views.{subtree_of};
 ghost use Rattle.host_words.specs.Clients.{hosted_client};
+ghost use Rattle.keys.specs.Keys.{key_room};
 ghost use Rattle.row_cells.specs.Sizes.{byte_count, word_count, length_count};
 
 use client_state::SubtreeBytes;
@@ -13,7 +16,8 @@ use host_words::{answer, client};
 use numbers::tick::Tick;
 use row_cells::{RowBytes, RowLengths};
 
-// A client that waits for the snapshot of a subtree, from a tick on. The arrays of rows are filled with zeros.
+// A client that waits for the snapshot of a subtree, from a tick on. The arrays of rows are filled with zeros, and so is
+// what stands behind the subtree in its array.
 #[unsafe(no_mangle)]
 pub extern "C" fn chp_lent_client_start(
     bytes: &mut RowBytes,
@@ -29,6 +33,8 @@ pub extern "C" fn chp_lent_client_start(
         answer.new }
     ensures zeroed { (bytes.new ≡ replicate byte_count 0)
         × (lengths.new ≡ replicate (word_count length_count) 0) }
+    ensures padded { subtree.new ≡ put (replicate key_room 0) 0
+        (subtree_of (hosted_client bytes.new lengths.new subtree.new header.new)) }
 {
     let r = client_start::start_lent(bytes, lengths, subtree, wanted, Tick(tick));
     client::put_outcome(header, answer, r);

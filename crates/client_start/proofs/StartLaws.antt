@@ -14,10 +14,10 @@ use Rattle.answers.specs.declared.answer.Kind.TheVariants.{Refused, Started}
 use Rattle.answers.specs.declared.refusal.Refusal.{Refusal}
 use Rattle.answers.specs.declared.refusal.Verdict.TheVariants.{Accept, Refuse}
 use Rattle.base.proofs.CheckLaws.{passed}
-use Rattle.base.proofs.OutputLaws.{place}
+use Rattle.base.proofs.OutputLaws.{place, output}
 use Rattle.base.specs.Bytes.{Bytes, every}
 use Rattle.base.specs.Checks.{first_refusal}
-use Rattle.base.specs.Output.{Written}
+use Rattle.base.specs.Output.{put, Written}
 use Rattle.cells.specs.Cells.{cells}
 use Rattle.client_calls.specs.Promises.{Began}
 use Rattle.client_calls.specs.Start.{start_checks, start_refusal, start_of, start_answer, waiting_at}
@@ -60,6 +60,10 @@ module _ (subtree : Bytes) (t : ℕ) (c : Client) (w : Waits subtree t c) where
         header = rw w.header (record { number = omega arith; clock = h; waits = refl });
       })
 
+-- an array that holds a client's subtree at its front holds what the client has for its subtree
+pub padded : {subtree : Bytes} {t : ℕ} {c : Client} → Waits subtree t c → (d : Bytes) → c.subtree ≡ put d 0 subtree → c.subtree ≡ put d 0 (subtree_of c)
+padded w d e = e ∙ ap (put d 0) (sym w.subtree_is)
+
 module _ (subtree : Bytes) (t : ℕ) where
   known : Accept ≡ verdict (first_refusal (start_checks subtree t)) → is_subtree subtree ≡ true
   known e = not-false _ (passed 0 (start_checks subtree t) (accepted (first_refusal (start_checks subtree t)) e))
@@ -72,6 +76,12 @@ module _ (subtree : Bytes) (t : ℕ) where
       let f : 0 + length subtree ≤ length d = omega arith in
       let n : i ≡ length subtree = omega (arith, place w f) in
       (n, ap (take i) (sym (append-nil o)) ∙ written_front d subtree [] (omega arith) w n)
+
+  pub filled : Accept ≡ verdict (first_refusal (start_checks subtree t)) → (d : Bytes) → length d ≡ key_room → {i : ℕ} {o : Bytes} → Written d 0 subtree i o → o ≡ put d 0 subtree
+  filled e d z w =
+      let s = subtree-short subtree (known e) in
+      let f : 0 + length subtree ≤ length d = omega arith in
+      output w f
 
   module _ (c : Client) (a : Answer) where
     pub begun : Accept ≡ verdict (first_refusal (start_checks subtree t)) → Waits subtree t c → a ≡ answer (Started (sequence 0)) 0 → Began subtree t c a

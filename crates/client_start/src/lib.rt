@@ -4,10 +4,12 @@
 ghost use Rattle.std.specs.Prelude.{◌≡◌, replicate};
 ghost use Rattle.answers.specs.Refusals.{verdict};
 ghost use Rattle.base.specs.Checks.{first_refusal};
+ghost use Rattle.base.specs.Output.{put};
 ghost use Rattle.client_calls.specs.Promises.{Began};
 ghost use Rattle.client_calls.specs.Start.{start_checks};
 ghost use Rattle.client_start.specs.Waiting.{waiting_header};
-ghost use Rattle.client_state.specs.Views.{lent};
+ghost use Rattle.client_state.specs.Views.{lent, subtree_of};
+ghost use Rattle.keys.specs.Keys.{key_room};
 ghost use Rattle.row_cells.specs.Sizes.{byte_count, word_count, length_count};
 
 use answers::answer::Kind;
@@ -58,6 +60,8 @@ pub fn start_lent(
         (lent bytes.new lengths.new subtree.new result.header) result.answer }
     ensures zeroed { (bytes.new ≡ replicate byte_count 0)
         × (lengths.new ≡ replicate (word_count length_count) 0) }
+    ensures padded { subtree.new ≡ put (replicate key_room 0) 0
+        (subtree_of (lent bytes.new lengths.new subtree.new result.header)) }
 {
     *bytes = [0; MAX_ROWS * CELL];
     *lengths = [0; MAX_ROWS * LENGTHS];
