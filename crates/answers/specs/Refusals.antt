@@ -1,10 +1,8 @@
 -- The refusals, their numbers, and what a table of checks comes to.
-use Rattle.std.specs.Prelude.{ℕ}
+use Rattle.std.specs.Prelude.{ℕ, Result, Ok, Err}
 use Rattle.std.proofs.Math.Option.{Option, none, some}
 use Rattle.answers.specs.declared.refusal.Refusal.TheVariants.{Framing, FrameCount, Word, BadKey, BadSubtree, BadSequence, BadUuid, BadProperties, BadValue, BadTick, Full, Exhausted, Phase, ShortOutput, BadIdentity, IllFormed}
 use Rattle.answers.specs.declared.refusal.Refusal.{Refusal}
-use Rattle.answers.specs.declared.refusal.Verdict.TheVariants.{Accept, Refuse}
-use Rattle.answers.specs.declared.refusal.Verdict.{Verdict}
 
 -- the number of each refusal
 abbrev pub refusal_number : Refusal → ℕ
@@ -26,14 +24,14 @@ refusal_number BadIdentity = 15
 refusal_number IllFormed = 16
 
 -- what is refused with, if anything, as the code tells it
-abbrev pub verdict : Option Refusal → Verdict
-verdict none = Accept
-verdict (some r) = Refuse r
+abbrev pub verdict : Option Refusal → Result (Unit {0}) Refusal
+verdict none = Ok tt
+verdict (some r) = Err r
 
 -- the number of a verdict's refusal; 0 where it accepts
-abbrev pub verdict_number : Verdict → ℕ
-verdict_number Accept = 0
-verdict_number (Refuse r) = refusal_number r
+abbrev pub verdict_number : Result (Unit {0}) Refusal → ℕ
+verdict_number (Ok _) = 0
+verdict_number (Err r) = refusal_number r
 
 -- what holds after a call that is accepted, and after one that is refused
 abbrev pub if_accepted : {A : Type 0} → Option Refusal → A → A → A

@@ -73,19 +73,19 @@ pub fn sequence_in(kind: Kind) -> Sequence
 {
     match kind {
         Kind::Refused(_, n) => n,
-        Kind::Started(n) => n,
-        Kind::Applied(n) => n,
-        Kind::Stale(n) => n,
-        Kind::Outside(n) => n,
-        Kind::Synced(n) => n,
-        Kind::Live(n) => n,
-        Kind::Heard(n) => n,
-        Kind::Wrote(n) => n,
-        Kind::Nothing(n) => n,
-        Kind::Found(n) => n,
-        Kind::Absent(n) => n,
-        Kind::Present(n) => n,
-        Kind::Gone(n) => n,
+        Kind::Started(n)
+        | Kind::Applied(n)
+        | Kind::Stale(n)
+        | Kind::Outside(n)
+        | Kind::Synced(n)
+        | Kind::Live(n)
+        | Kind::Heard(n)
+        | Kind::Wrote(n)
+        | Kind::Nothing(n)
+        | Kind::Found(n)
+        | Kind::Absent(n)
+        | Kind::Present(n)
+        | Kind::Gone(n) => n,
     }
 }
 

@@ -2,4 +2,5 @@
 #![tactic(auto)]
 
 pub mod answer;
+pub mod outcome;
 pub mod refusal;

@@ -6,76 +6,52 @@ ghost use Rattle.answers.specs.Refusals.{refusal_number, verdict_number};
 #[derive(Clone, Copy)]
 pub enum Refusal {
     // Bytes that are not a run of whole frames up to the last.
-    Framing,
+    Framing = 1,
     // Another count of frames than the port takes.
-    FrameCount,
+    FrameCount = 2,
     // A snapshot request without its word.
-    Word,
+    Word = 3,
     // A malformed key.
-    BadKey,
+    BadKey = 4,
     // A malformed subtree, a key outside it, or another one.
-    BadSubtree,
+    BadSubtree = 5,
     // A sequence of other than eight octets, or out of range.
-    BadSequence,
+    BadSequence = 6,
     // A UUID of another length than it may have.
-    BadUuid,
+    BadUuid = 7,
     // Properties that are malformed or may not be there.
-    BadProperties,
+    BadProperties = 8,
     // A value that is too long, lacks, or may not be there.
-    BadValue,
+    BadValue = 9,
     // A tick out of range, or below the last one.
-    BadTick,
+    BadTick = 10,
     // No room for one row more.
-    Full,
+    Full = 11,
     // No number left for one update more.
-    Exhausted,
+    Exhausted = 12,
     // A client that waits, or one that is live, and should be the other.
-    Phase,
+    Phase = 13,
     // Output too short for the answer.
-    ShortOutput,
+    ShortOutput = 14,
     // An identity of another length than it may have.
-    BadIdentity,
+    BadIdentity = 15,
     // An ill-formed state.
-    IllFormed,
-}
-
-// What checks come to.
-#[derive(Clone, Copy)]
-pub enum Verdict {
-    Accept,
-    Refuse(Refusal),
+    IllFormed = 16,
 }
 
 // The number of a refusal.
 pub fn refusal_number(r: Refusal) -> u64
     ensures { result ≡ refusal_number r }
 {
-    match r {
-        Refusal::Framing => 1,
-        Refusal::FrameCount => 2,
-        Refusal::Word => 3,
-        Refusal::BadKey => 4,
-        Refusal::BadSubtree => 5,
-        Refusal::BadSequence => 6,
-        Refusal::BadUuid => 7,
-        Refusal::BadProperties => 8,
-        Refusal::BadValue => 9,
-        Refusal::BadTick => 10,
-        Refusal::Full => 11,
-        Refusal::Exhausted => 12,
-        Refusal::Phase => 13,
-        Refusal::ShortOutput => 14,
-        Refusal::BadIdentity => 15,
-        Refusal::IllFormed => 16,
-    }
+    r as u64
 }
 
-// The number of a verdict's refusal, or 0.
-pub fn verdict_number(v: Verdict) -> u64
+// The number of what checks refuse with, or 0.
+pub fn verdict_number(v: Result<(), Refusal>) -> u64
     ensures { result ≡ verdict_number v }
 {
     match v {
-        Verdict::Accept => 0,
-        Verdict::Refuse(r) => refusal_number(r),
+        Ok(()) => 0,
+        Err(r) => refusal_number(r),
     }
 }

@@ -10,6 +10,7 @@ use lib.Dec.{eqb}
 use lib.ListN.{length, get_or, take, drop, take-append-drop, length-append}
 use lib.Seq.{drop-append_seam}
 use borrow.Author.Tests.{eqb-true}
+use Rattle.std.specs.Prelude.{Some, None}
 use Rattle.answers.specs.declared.refusal.Refusal.TheVariants.{Framing, FrameCount}
 use Rattle.base.specs.Bytes.{Bytes}
 use Rattle.base.specs.Checks.Check.{when}
@@ -18,9 +19,7 @@ use Rattle.chp.specs.Values.{IsValueLength}
 use Rattle.frames.proofs.FrameGrammar.{ended, some_frame}
 use Rattle.frames.proofs.MessageLaws.{frames_step, none_some, prepended}
 use Rattle.frames.specs.Messages.{through, frames_in, frame_at}
-use Rattle.frames.specs.Steps.{step_of}
-use Rattle.frames.specs.declared.step.Step.TheVariants.{Frame, Broken}
-use Rattle.frames.specs.declared.step.Step.{Step}
+use Rattle.frames.specs.Steps.{Step, found, step_of}
 use Rattle.ports.specs.Ports.{is_none, value_for, value_in}
 
 -- some bytes end with others
@@ -40,21 +39,27 @@ last_ends : (k : ℕ) (s : Bytes) (bodies : List Bytes) → length bodies ≡ su
 last_ends zero s bodies n e = go (step_of s) (sym (frames_step s) ∙ e)
   where
     go : (x : Step) → through frames_in s x ≡ some bodies → Ends s (get_or bodies 0 [])
-    go Broken e = none_some bodies e
-    go (Frame start len false) e =
-        let f = ended (take len (drop start s)) (drop len (drop start s)) bodies e in
-        rw f.1 (ends-drop start s (take len (drop start s)) (ends-whole len (drop start s) f.0))
-    go (Frame start len true) e =
-        let f = prepended (take len (drop start s)) (frames_in (drop len (drop start s))) bodies e in
-        absurd (some_frame (drop len (drop start s)) f.0 f.1 (omega (arith, n, ap length f.2)))
+    go None e = none_some bodies e
+    go (Some x) e = framed x.start x.len x.more e
+      where
+        framed : (start len : ℕ) (more : Bool) → through frames_in s (found start len more) ≡ some bodies → Ends s (get_or bodies 0 [])
+        framed start len false e =
+            let f = ended (take len (drop start s)) (drop len (drop start s)) bodies e in
+            rw f.1 (ends-drop start s (take len (drop start s)) (ends-whole len (drop start s) f.0))
+        framed start len true e =
+            let f = prepended (take len (drop start s)) (frames_in (drop len (drop start s))) bodies e in
+            absurd (some_frame (drop len (drop start s)) f.0 f.1 (omega (arith, n, ap length f.2)))
 last_ends (suc k) s bodies n e = go (λ t bs m f. last_ends k t bs m f) (step_of s) (sym (frames_step s) ∙ e)
   where
     go : ((t : Bytes) (bs : List Bytes) → length bs ≡ suc k → frames_in t ≡ some bs → Ends t (get_or bs k [])) → (x : Step) → through frames_in s x ≡ some bodies → Ends s (get_or bodies (suc k) [])
-    go ih Broken e = none_some bodies e
-    go ih (Frame start len false) e = absurd (omega (arith, n, ap length (ended (take len (drop start s)) (drop len (drop start s)) bodies e).1))
-    go ih (Frame start len true) e =
-        let f = prepended (take len (drop start s)) (frames_in (drop len (drop start s))) bodies e in
-        rw f.2 (ends-drop start s _ (ends-drop len (drop start s) _ (ih (drop len (drop start s)) f.0 (omega (arith, n, ap length f.2)) f.1)))
+    go ih None e = none_some bodies e
+    go ih (Some x) e = framed x.start x.len x.more e
+      where
+        framed : (start len : ℕ) (more : Bool) → through frames_in s (found start len more) ≡ some bodies → Ends s (get_or bodies (suc k) [])
+        framed start len false e = absurd (omega (arith, n, ap length (ended (take len (drop start s)) (drop len (drop start s)) bodies e).1))
+        framed start len true e =
+            let f = prepended (take len (drop start s)) (frames_in (drop len (drop start s))) bodies e in
+            rw f.2 (ends-drop start s _ (ends-drop len (drop start s) _ (ih (drop len (drop start s)) f.0 (omega (arith, n, ap length f.2)) f.1)))
 
 -- and so does what the value entry gives; nothing ends every message
 value-ends : (msg : Bytes) → Ends msg (value_in msg)

@@ -9,10 +9,11 @@ ghost use Rattle.host_words.specs.Clients.{hosted_client};
 ghost use Rattle.keys.specs.Keys.{key_room};
 ghost use Rattle.row_cells.specs.Sizes.{byte_count, word_count, length_count};
 
-use client_state::SubtreeBytes;
+use client_state::{Header, SubtreeBytes};
 use host_words::answer::AnswerWords;
 use host_words::client::ClientHeader;
-use host_words::{answer, client};
+use host_words::words::Words;
+use host_words::{answer, words};
 use numbers::tick::Tick;
 use row_cells::{RowBytes, RowLengths};
 
@@ -37,7 +38,7 @@ pub extern "C" fn chp_lent_client_start(
         (subtree_of (hosted_client bytes.new lengths.new subtree.new header.new)) }
 {
     let r = client_start::start_lent(bytes, lengths, subtree, wanted, Tick(tick));
-    client::put_outcome(header, answer, r);
+    words::put_outcome(header, answer, r);
 }
 
 // The snapshot entry.
@@ -56,9 +57,9 @@ pub extern "C" fn chp_lent_client_snapshot<'a>(
         (hosted_client bytes.new lengths.new subtree.now header.new)
         answer.new [] }
 {
-    let before = client::header_of(*header);
+    let before = Header::from_words(header);
     let r = client_snapshot::snapshot_lent(bytes, lengths, subtree, before, msg);
-    client::put_outcome(header, answer, r);
+    words::put_outcome(header, answer, r);
 }
 
 // The subscriber entry.
@@ -78,9 +79,9 @@ pub extern "C" fn chp_lent_client_subscriber<'a>(
         (hosted_client bytes.new lengths.new subtree.now header.new)
         answer.new [] }
 {
-    let before = client::header_of(*header);
+    let before = Header::from_words(header);
     let r = client_subscriber::subscriber_lent(bytes, lengths, subtree, before, msg, Tick(tick));
-    client::put_outcome(header, answer, r);
+    words::put_outcome(header, answer, r);
 }
 
 // The writer of ICANHAZ.
@@ -99,7 +100,7 @@ pub extern "C" fn chp_lent_client_write_icanhaz<'a>(
         (hosted_client bytes.now lengths.now subtree.now header.now)
         answer.new out.new }
 {
-    let before = client::header_of(*header);
+    let before = Header::from_words(header);
     let a = client_writers::write_icanhaz_lent(bytes, lengths, subtree, before, out);
     answer::put_answer(answer, a);
 }
@@ -125,7 +126,7 @@ pub extern "C" fn chp_lent_client_write_kvset<'a>(
         (hosted_client bytes.now lengths.now subtree.now header.now)
         answer.new out.new }
 {
-    let before = client::header_of(*header);
+    let before = Header::from_words(header);
     let a = client_writers::write_kvset_lent(
         bytes, lengths, subtree, before, key, uuid, properties, value, out,
     );
@@ -148,7 +149,7 @@ pub extern "C" fn chp_lent_client_ask<'a>(
         (hosted_client bytes.now lengths.now subtree.now header.now)
         answer.new [] }
 {
-    let before = client::header_of(*header);
+    let before = Header::from_words(header);
     let a = client_ask::ask_lent(bytes, lengths, subtree, before, Tick(tick));
     answer::put_answer(answer, a);
 }
@@ -170,7 +171,7 @@ pub extern "C" fn chp_lent_client_lookup<'a>(
         (hosted_client bytes.now lengths.now subtree.now header.now)
         answer.new out.new }
 {
-    let before = client::header_of(*header);
+    let before = Header::from_words(header);
     let a = client_lookup::lookup_lent(bytes, lengths, subtree, before, key, out);
     answer::put_answer(answer, a);
 }

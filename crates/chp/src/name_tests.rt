@@ -2,18 +2,12 @@
 ghost use Rattle.std.specs.Prelude.{cond, ◌≡◌};
 ghost use Rattle.keys.specs.Keys.{is_key, is_subtree, under};
 
-fn number(test: bool) -> u64
-    ensures { result ≡ cond test 1 0 }
-{
-    if test { 1 } else { 0 }
-}
-
 // Whether some bytes are a key.
 #[unsafe(no_mangle)]
 pub extern "C" fn chp_bytes_is_key(bytes: &[u8]) -> u64
     ensures { result ≡ cond (is_key bytes.now) 1 0 }
 {
-    number(keys::is_key(bytes))
+    keys::is_key(bytes) as u64
 }
 
 // Whether some bytes are a subtree.
@@ -21,7 +15,7 @@ pub extern "C" fn chp_bytes_is_key(bytes: &[u8]) -> u64
 pub extern "C" fn chp_bytes_is_subtree(bytes: &[u8]) -> u64
     ensures { result ≡ cond (is_subtree bytes.now) 1 0 }
 {
-    number(keys::is_subtree(bytes))
+    keys::is_subtree(bytes) as u64
 }
 
 // Whether a key is under a subtree.
@@ -29,5 +23,5 @@ pub extern "C" fn chp_bytes_is_subtree(bytes: &[u8]) -> u64
 pub extern "C" fn chp_bytes_is_under(subtree: &[u8], key: &[u8]) -> u64
     ensures { result ≡ cond (under subtree.now key.now) 1 0 }
 {
-    number(keys::is_under(subtree, key))
+    keys::is_under(subtree, key) as u64
 }

@@ -8,11 +8,12 @@ ghost use Rattle.server_state.specs.Stamps.{stamp_count};
 
 use host_words::answer::AnswerWords;
 use host_words::server::ServerHeader;
-use host_words::{answer, server};
+use host_words::words::Words;
+use host_words::{answer, words};
 use numbers::sequence::Sequence;
 use numbers::tick::Tick;
 use row_cells::{RowBytes, RowLengths};
-use server_state::RowStamps;
+use server_state::{Header, RowStamps};
 
 // A server without rows at a number and a tick. The arrays are filled with zeros.
 #[unsafe(no_mangle)]
@@ -33,7 +34,7 @@ pub extern "C" fn chp_lent_server_start(
         × (stamps.new ≡ replicate (word_count stamp_count) 0) }
 {
     let r = server_start::start_lent(bytes, lengths, stamps, Sequence(number), Tick(tick));
-    server::put_outcome(header, answer, r);
+    words::put_outcome(header, answer, r);
 }
 
 // KVSET at a tick.
@@ -54,9 +55,9 @@ pub extern "C" fn chp_lent_server_kvset(
         (hosted_server bytes.new lengths.new stamps.new header.new)
         answer.new out.new }
 {
-    let before = server::header_of(*header);
+    let before = Header::from_words(header);
     let r = server_kvset::kvset_lent(bytes, lengths, stamps, before, msg, Tick(tick), out);
-    server::put_outcome(header, answer, r);
+    words::put_outcome(header, answer, r);
 }
 
 // Tick.
@@ -76,9 +77,9 @@ pub extern "C" fn chp_lent_server_tick(
         (hosted_server bytes.new lengths.new stamps.new header.new)
         answer.new out.new }
 {
-    let before = server::header_of(*header);
+    let before = Header::from_words(header);
     let r = server_tick::tick_lent(bytes, lengths, stamps, before, Tick(tick), out);
-    server::put_outcome(header, answer, r);
+    words::put_outcome(header, answer, r);
 }
 
 // ICANHAZ.
@@ -98,7 +99,7 @@ pub extern "C" fn chp_lent_server_icanhaz<'a>(
         (hosted_server bytes.now lengths.now stamps.now header.now)
         answer.new out.new }
 {
-    let before = server::header_of(*header);
+    let before = Header::from_words(header);
     let a = server_snapshot::icanhaz_lent(bytes, lengths, stamps, before, msg, out);
     answer::put_answer(answer, a);
 }

@@ -9,17 +9,15 @@ ghost use Rattle.client_calls.specs.Calls.{write_icanhaz, write_kvset};
 ghost use Rattle.client_calls.specs.Promises.{Began, Answered};
 
 use answers::answer::Answer;
+use answers::outcome;
+use client_calls::Outcome;
 use client_state::Client;
 use keys::KEY_ROOM;
 use numbers::tick::Tick;
 use row_cells::{CELL, LENGTHS, MAX_ROWS};
 
 // The state after a call, and what the call answers.
-#[derive(Clone, Copy)]
-pub struct Reply {
-    pub state: Client,
-    pub answer: Answer,
-}
+pub type Reply = outcome::Reply<Client>;
 
 // A client that waits for the snapshot of a subtree, from a tick on. Refused, it has the empty subtree and tick 0.
 pub fn start(wanted: &[u8], tick: Tick) -> Reply
@@ -28,67 +26,51 @@ pub fn start(wanted: &[u8], tick: Tick) -> Reply
     let mut bytes = [0; MAX_ROWS * CELL];
     let mut lengths = [0; MAX_ROWS * LENGTHS];
     let mut subtree = [0; KEY_ROOM];
-    let r = client_start::start_lent(&mut bytes, &mut lengths, &mut subtree, wanted, tick);
-    let header = r.header;
-    let answer = r.answer;
-    Reply {
-        state: Client {
-            bytes,
-            lengths,
-            subtree,
-            header,
-        },
-        answer,
-    }
+    let Outcome { header, answer } = client_start::start_lent(
+        &mut bytes,
+        &mut lengths,
+        &mut subtree,
+        wanted,
+        tick,
+    );
+    let state = Client {
+        bytes,
+        lengths,
+        subtree,
+        header,
+    };
+    Reply { state, answer }
 }
 
 // The snapshot entry: a message of five frames, the identity in front of it taken off.
-pub fn snapshot(c: Client, msg: &[u8]) -> Reply
+pub fn snapshot(mut c: Client, msg: &[u8]) -> Reply
     ensures { Answered c (synced msg.now) [] result.state result.answer [] }
 {
-    let mut bytes = c.bytes;
-    let mut lengths = c.lengths;
-    let subtree = c.subtree;
-    let r = client_snapshot::snapshot_lent(&mut bytes, &mut lengths, &subtree, c.header, msg);
-    let header = r.header;
-    let answer = r.answer;
-    Reply {
-        state: Client {
-            bytes,
-            lengths,
-            subtree,
-            header,
-        },
-        answer,
-    }
+    let Outcome { header, answer } = client_snapshot::snapshot_lent(
+        &mut c.bytes,
+        &mut c.lengths,
+        &c.subtree,
+        c.header,
+        msg,
+    );
+    let state = Client { header, ..c };
+    Reply { state, answer }
 }
 
 // The subscriber entry: a message of five frames, and the time, which only HUGZ uses.
-pub fn subscriber(c: Client, msg: &[u8], tick: Tick) -> Reply
+pub fn subscriber(mut c: Client, msg: &[u8], tick: Tick) -> Reply
     ensures { Answered c (heard msg.now tick.0) [] result.state result.answer [] }
 {
-    let mut bytes = c.bytes;
-    let mut lengths = c.lengths;
-    let subtree = c.subtree;
-    let r = client_subscriber::subscriber_lent(
-        &mut bytes,
-        &mut lengths,
-        &subtree,
+    let Outcome { header, answer } = client_subscriber::subscriber_lent(
+        &mut c.bytes,
+        &mut c.lengths,
+        &c.subtree,
         c.header,
         msg,
         tick,
     );
-    let header = r.header;
-    let answer = r.answer;
-    Reply {
-        state: Client {
-            bytes,
-            lengths,
-            subtree,
-            header,
-        },
-        answer,
-    }
+    let state = Client { header, ..c };
+    Reply { state, answer }
 }
 
 // Writes ICANHAZ, the request for the snapshot of the client's subtree.

@@ -2,13 +2,13 @@
 use Prim.Native.Nat.{ℕ, ◌+◌, ◌≤◌, ◌<◌}
 use native.Mathlib.Omega.{arith}
 use mathlib.Core.Bool.{Bool, true, false}
-use mathlib.Core.List.{List, [], ◌∷◌, ◌++◌}
-use mathlib.Core.Option.{none, some}
+use mathlib.Core.List.{List, [], ◌∷◌, ◌++◌, append_assoc}
+use mathlib.Core.Option.{Option, none, some}
 use mathlib.Core.Path.{◌≡◌, refl, sym, ap, ◌∙◌}
 use lib.Dec.{leb, ltb}
 use lib.ListN.{length}
 use borrow.Author.Tests.{lt-ltb, le-ltb, ne_eqb, leb-true, leb-false}
-use Rattle.answers.proofs.VerdictLaws.{accepted, refused}
+use Rattle.std.specs.Prelude.{Result, Ok, Err}
 use Rattle.answers.specs.Answers.{answer}
 use Rattle.answers.specs.Refusals.{verdict}
 use Rattle.answers.specs.declared.answer.Answer.{Answer}
@@ -16,15 +16,13 @@ use Rattle.answers.specs.declared.answer.Kind.TheVariants.{Refused}
 use Rattle.answers.specs.declared.answer.Kind.{Kind}
 use Rattle.answers.specs.declared.refusal.Refusal.TheVariants.{ShortOutput}
 use Rattle.answers.specs.declared.refusal.Refusal.{Refusal}
-use Rattle.answers.specs.declared.refusal.Verdict.TheVariants.{Accept, Refuse}
-use Rattle.answers.specs.declared.refusal.Verdict.{Verdict}
 use Rattle.base.proofs.CheckLaws.{pass_all, stop_all}
 use Rattle.base.proofs.OutputLaws.{place, output}
 use Rattle.base.specs.Bytes.{Bytes}
 use Rattle.base.specs.Checks.Check.{when}
 use Rattle.base.specs.Checks.{Check, first_refusal}
 use Rattle.base.specs.Output.{put, Written}
-use Rattle.client_calls.proofs.AnswerLaws.{refused_call, accepted_call, ill_refusal, well_refusal}
+use Rattle.client_calls.proofs.AnswerLaws.{refused_call, accepted_call}
 use Rattle.client_calls.specs.Answers.{accepted_kind}
 use Rattle.client_calls.specs.Calls.{Call}
 use Rattle.client_calls.specs.Next.{accepted_next}
@@ -32,9 +30,22 @@ use Rattle.client_calls.specs.Output.{accepted_bytes}
 use Rattle.client_calls.specs.Promises.{Answered}
 use Rattle.client_calls.specs.Refusals.{call_checks, refusal_of}
 use Rattle.client_calls.specs.Written.{written_of}
-use Rattle.client_state.specs.IllFormed.{ill_forms, WellFormed}
+use Rattle.client_state.specs.IllFormed.{ill_forms}
 use Rattle.client_state.specs.Views.{view}
 use Rattle.client_state.specs.declared.Client.{Client}
+
+-- ---- checks behind those of the state
+-- a verdict, and that of what is checked only where it accepts
+abbrev pub if_passed : Result (Unit {0}) Refusal → Result (Unit {0}) Refusal → Result (Unit {0}) Refusal
+if_passed (Ok u) behind = behind
+if_passed (Err r) behind = Err r
+
+pub verdict_behind : (a b : List (Check Refusal)) → verdict (first_refusal (a ++ b)) ≡ if_passed (verdict (first_refusal a)) (verdict (first_refusal b))
+verdict_behind a b = go (first_refusal a) refl
+  where
+    go : (x : Option Refusal) → first_refusal a ≡ x → verdict (first_refusal (a ++ b)) ≡ if_passed (verdict x) (verdict (first_refusal b))
+    go none e = ap verdict (pass_all a b e)
+    go (some r) e = ap verdict (stop_all a b r e)
 
 -- ---- a call that is refused, or accepted
 module _ (c : Client) (x : Call) {a : Answer} where
@@ -45,16 +56,9 @@ module _ (c : Client) (x : Call) {a : Answer} where
       → out' ≡ put out 0 (accepted_bytes (view c) x) → Answered c x out c a out'
   query_accepted out out' e next told written = accepted_call c x out c a out' e told (sym next) written (λ w. w)
 
--- ---- the test of the state
-module _ (c : Client) {v : Verdict} (is : v ≡ verdict (first_refusal (ill_forms c))) where
-  pub found_ill : (x : Call) (out : Bytes) {r : Refusal} → v ≡ Refuse r → {a : Answer} → a ≡ answer (Refused r c.header.number) 0 → Answered c x out c a out
-  found_ill x out e told = query_refused c x out (ill_refusal c x (refused _ _ (sym e ∙ is))) told
-
-  pub found_well : v ≡ Accept → WellFormed c
-  found_well e = accepted _ (sym e ∙ is)
-
 -- ---- a call that puts bytes into the output, once it has passed the checks before that of the output
--- the call x: the checks before, the bytes, which are not none, and the kind of its answer
+-- the call x: its checks between those of the state and that of the output, the bytes, which are not none, and the kind
+-- of its answer
 pub record Puts (c : Client) (x : Call) (checks : List (Check Refusal)) (xs : Bytes) (room : ℕ) (kind : Kind) : Type 0 where
   pub table : call_checks (view c) x ≡ checks ++ (when (ltb room (length xs)) ShortOutput ∷ [])
   pub next : accepted_next (view c) x ≡ view c
@@ -62,22 +66,25 @@ pub record Puts (c : Client) (x : Call) (checks : List (Check Refusal)) (xs : By
   pub kind_is : accepted_kind (view c) x ≡ kind
   pub some_bytes : 0 < length xs
 
-module _ (c : Client) (w : WellFormed c) (x : Call) (checks : List (Check Refusal)) (xs out : Bytes) (kind : Kind) (p : Puts c x checks xs (length out) kind) where
+module _ (c : Client) (x : Call) (checks : List (Check Refusal)) (xs out : Bytes) (kind : Kind) (p : Puts c x checks xs (length out) kind) where
   abbrev last : List (Check Refusal)
   last = when (ltb (length out) (length xs)) ShortOutput ∷ []
 
-  whole : refusal_of c x ≡ first_refusal (checks ++ last)
-  whole = well_refusal c x w ∙ ap first_refusal p.table
+  whole : refusal_of c x ≡ first_refusal ((ill_forms c ++ checks) ++ last)
+  unfolding refusal_of
+  whole =
+      ap (λ (table : List (Check Refusal)). first_refusal (ill_forms c ++ table)) p.table
+      ∙ ap first_refusal (sym (append_assoc (ill_forms c) checks last))
 
-  pub put_refused : {a : Answer} {r : Refusal} → first_refusal checks ≡ some r → a ≡ answer (Refused r c.header.number) 0 → Answered c x out c a out
-  put_refused {a} {r} e told = query_refused c x out (whole ∙ stop_all checks last r e) told
+  pub put_refused : {a : Answer} {r : Refusal} → first_refusal (ill_forms c ++ checks) ≡ some r → a ≡ answer (Refused r c.header.number) 0 → Answered c x out c a out
+  put_refused {a} {r} e told = query_refused c x out (whole ∙ stop_all (ill_forms c ++ checks) last r e) told
 
-  pub put_done : {a : Answer} → first_refusal checks ≡ none → {i : ℕ} {out' : Bytes} → Written out 0 xs i out' → a ≡ written_of kind c.header.number i → Answered c x out c a out'
+  pub put_done : {a : Answer} → first_refusal (ill_forms c ++ checks) ≡ none → {i : ℕ} {out' : Bytes} → Written out 0 xs i out' → a ≡ written_of kind c.header.number i → Answered c x out c a out'
   unfolding first_refusal
   put_done {a} e {i} {out'} put_in told = go (leb (0 + length xs) (length out)) refl
     where
       behind : refusal_of c x ≡ first_refusal last
-      behind = whole ∙ pass_all checks last e
+      behind = whole ∙ pass_all (ill_forms c ++ checks) last e
 
       go : (t : Bool) → leb (0 + length xs) (length out) ≡ t → Answered c x out c a out'
       go true h =

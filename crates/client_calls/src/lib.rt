@@ -3,43 +3,16 @@
 #![tactic(auto)]
 
 ghost use Rattle.std.specs.Prelude.{◌≡◌};
-ghost use Rattle.answers.specs.Answers.{answer};
-ghost use Rattle.answers.specs.declared.answer.Kind.TheVariants.{Refused};
 ghost use Rattle.client_calls.specs.Written.{written_of};
 
-use answers::answer;
 use answers::answer::{Answer, Kind};
 use answers::refusal::Refusal;
+use answers::{answer, outcome};
 use client_state::Header;
 use numbers::sequence::Sequence;
 
-// What a call leaves of a state whose arrays are lent: the header, and what the call answers.
-#[derive(Clone, Copy)]
-pub struct Outcome {
-    pub header: Header,
-    pub answer: Answer,
-}
-
-// What a refused call leaves.
-pub fn refused(header: Header, r: Refusal) -> Outcome
-    ensures { (result.header ≡ header) × (result.answer ≡ answer (Refused r header.number) 0) }
-{
-    let number = header.number;
-    Outcome {
-        header,
-        answer: answer::without_output(Kind::Refused(r, number)),
-    }
-}
-
-// What a call leaves that is accepted, and writes nothing.
-pub fn accepted(header: Header, kind: Kind) -> Outcome
-    ensures { (result.header ≡ header) × (result.answer ≡ answer kind 0) }
-{
-    Outcome {
-        header,
-        answer: answer::without_output(kind),
-    }
-}
+// What a call leaves of a client whose arrays are lent.
+pub type Outcome = outcome::Outcome<Header>;
 
 // What a call answers that has put so many bytes into the output. No message and no value is empty: where none is
 // written, the output was too short.

@@ -6,6 +6,7 @@ use mathlib.Core.List.{List, [], ◌++◌}
 use mathlib.Core.Option.{Option, none, some}
 use mathlib.Core.Path.{◌≡◌, refl, sym, ap, ◌∙◌}
 use lib.ListN.{length}
+use Rattle.std.specs.Prelude.{Result, Err}
 use Rattle.answers.specs.declared.refusal.Refusal.{Refusal}
 use Rattle.base.proofs.CheckLaws.{passed, pass_all, stop_all, both_passed}
 use Rattle.base.specs.Bytes.{Bytes}
@@ -21,7 +22,6 @@ use Rattle.client_calls.specs.Refusals.{overfilled_by, effect_checks, call_check
 use Rattle.client_effects.proofs.EffectLaws.{InPhase, InTime, Carries, Taken}
 use Rattle.client_effects.proofs.PlanLaws.{held_among, over_same, checks_planned}
 use Rattle.client_effects.specs.Plans.{plan_unless, plan_in_phase, effect_plan, message_plan}
-use Rattle.client_effects.specs.declared.Plan.TheVariants.{Refuse}
 use Rattle.client_effects.specs.declared.Plan.{Plan}
 use Rattle.client_state.proofs.FormLaws.{good_client}
 use Rattle.client_state.proofs.StateLaws.{as_many, row_count}
@@ -69,13 +69,13 @@ module _ {c : Client} {x : Call} {msg : Bytes} {e : Effect} {port : List (Check 
   well w = well_refusal c x w ∙ ap first_refusal m.table ∙ rw (as_rows c w e)
 
   -- ---- the plan, by how far the checks go
-  pub plan_ill : {r : Refusal} → first_refusal (ill_forms c) ≡ some r → Refuse r ≡ message_plan c x e
+  pub plan_ill : {r : Refusal} → first_refusal (ill_forms c) ≡ some r → Err r ≡ message_plan c x e
   plan_ill f = rw (ill_refusal c x f)
 
-  pub plan_stopped : WellFormed c → {r : Refusal} → first_refusal port ≡ some r → Refuse r ≡ message_plan c x e
+  pub plan_stopped : WellFormed c → {r : Refusal} → first_refusal port ≡ some r → Err r ≡ message_plan c x e
   plan_stopped w {r} f = rw (well w, stop_all port behind r f)
 
-  pub plan_passed : WellFormed c → first_refusal port ≡ none → {p : Plan} → p ≡ plan_in_phase other_phase (effect_plan (key_list c) c.header e) → p ≡ message_plan c x e
+  pub plan_passed : WellFormed c → first_refusal port ≡ none → {p : Result Plan Refusal} → p ≡ plan_in_phase other_phase (effect_plan (key_list c) c.header e) → p ≡ message_plan c x e
   plan_passed w f is = is ∙ sym (checks_planned (key_list c) c.header e other_phase) ∙ ap (λ (r : Option Refusal). plan_unless r (effect_plan (key_list c) c.header e)) (sym (well w ∙ pass_all port behind f))
 
   -- ---- a message that is accepted

@@ -1,14 +1,14 @@
 -- A plan that is carried out is what the call of a message promises. Assumes nothing.
-use Prim.Native.Nat.{ℕ, ◌≤◌}
+use Prim.Native.Nat.{ℕ}
 use mathlib.Core.Bool.{Bool, false}
 use mathlib.Core.List.{List, []}
 use mathlib.Core.Option.{none}
-use mathlib.Core.Path.{◌≡◌, refl, sym, ap, ◌∙◌, subst}
-use lib.ListN.{length}
+use mathlib.Core.Path.{◌≡◌, refl, sym, ap, ◌∙◌}
+use Rattle.std.specs.Prelude.{Result, Ok, Err}
 use Rattle.answers.specs.Answers.{answer}
 use Rattle.answers.specs.declared.answer.Answer.{Answer}
-use Rattle.answers.specs.declared.answer.Kind.TheVariants.{Refused}
 use Rattle.answers.specs.declared.answer.Kind.{Kind}
+use Rattle.answers.specs.declared.outcome.Outcome.{Outcome}
 use Rattle.answers.specs.declared.refusal.Refusal.{Refusal}
 use Rattle.base.specs.Bytes.{Bytes}
 use Rattle.base.specs.Checks.{Check}
@@ -19,53 +19,29 @@ use Rattle.client_calls.specs.Calls.{Call}
 use Rattle.client_calls.specs.Effects.{Effect}
 use Rattle.client_calls.specs.Promises.{Answered}
 use Rattle.client_calls.specs.Refusals.{refusal_of}
-use Rattle.client_calls.specs.declared.Outcome.{Outcome}
 use Rattle.client_effects.proofs.CallLaws.{Sends, taken}
 use Rattle.client_effects.proofs.EffectLaws.{Carries, Taken, RowKnown, row_known, Done, done_view, done_good}
 use Rattle.client_effects.proofs.PlanLaws.{same_sizes, made_fits, plan_refused, plan_noted, plan_stored, not_refused, is_noted, is_stored, StoredAs}
 use Rattle.client_effects.specs.Carried.{Storable, Stored, CarriedOut}
 use Rattle.client_effects.specs.Plans.{effect_header, effect_row, row_change, message_plan}
-use Rattle.client_effects.specs.declared.Plan.TheVariants.{Refuse, Note, Store}
+use Rattle.client_effects.specs.declared.Plan.TheVariants.{Note, Store}
 use Rattle.client_effects.specs.declared.Plan.{Plan}
 use Rattle.client_state.proofs.FormLaws.{client_good}
 use Rattle.client_state.proofs.StateLaws.{key_count, RowChanged, keys_changed, rows-changed}
 use Rattle.client_state.specs.Views.{lent, key_list}
 use Rattle.client_state.specs.declared.Client.{Client}
 use Rattle.client_state.specs.declared.Header.{Header}
-use Rattle.frame_forms.specs.Lengths.{value_room}
 use Rattle.frames.specs.Messages.{frame_at}
 use Rattle.keys.proofs.UnderLaws.{key-short}
-use Rattle.keys.specs.Keys.{key_room}
 use Rattle.row_cells.specs.FreshRows.{cell_of}
 use Rattle.row_change.specs.Changes.{count_after, Fits, is_over}
 use Rattle.row_change.specs.declared.Change.{Change}
 use Rattle.row_search.proofs.UpdateLaws.{update_good}
 use Rattle.row_search.specs.Places.{place_of, change_to}
 
--- ---- by what the plan is
-module _ (plan : Plan) (h : Header) (key value : Bytes) (bytes lengths : List ℕ) (o : Outcome) where
-  pub refused_so : {r : Refusal} → plan ≡ Refuse r → o.header ≡ h → o.answer ≡ answer (Refused r h.number) 0 → CarriedOut plan h key value bytes lengths bytes lengths o
-  unfolding CarriedOut
-  refused_so e header told = subst (λ (p : Plan). CarriedOut p h key value bytes lengths bytes lengths o) (sym e) (refl, (refl, (header, told)))
-
-  pub noted_so : {after : Header} {kind : Kind} → plan ≡ Note after kind → o.header ≡ after → o.answer ≡ answer kind 0 → CarriedOut plan h key value bytes lengths bytes lengths o
-  unfolding CarriedOut
-  noted_so e header told = subst (λ (p : Plan). CarriedOut p h key value bytes lengths bytes lengths o) (sym e) (refl, (refl, (header, told)))
-
-  pub stored_so : {change : Change} {after : Header} {kind : Kind} (bytes' lengths' : List ℕ) → plan ≡ Store change after kind → Stored change key value h.count bytes lengths bytes' lengths'
-      → o.header ≡ after → o.answer ≡ answer kind 0 → CarriedOut plan h key value bytes lengths bytes' lengths' o
-  unfolding CarriedOut
-  stored_so bytes' lengths' e d header told = subst (λ (p : Plan). CarriedOut p h key value bytes lengths bytes' lengths' o) (sym e) (d, (header, told))
-
--- what can be stored
-pub stores_so : (plan : Plan) (n : ℕ) (key value : Bytes) {change : Change} {after : Header} {kind : Kind} → plan ≡ Store change after kind → Storable plan n key value
-    → Fits change n × ((length key ≤ key_room) × (length value ≤ value_room))
-unfolding Storable
-stores_so plan n key value e p = subst (λ (q : Plan). Storable q n key value) e p
-
 -- ---- the plan of a call that hands in a message, with the key and the value that the message carries
 module _ {c : Client} {x : Call} {msg : Bytes} {e : Effect} {port : List (Check Refusal)} {other_phase : Bool} (m : Sends c x msg e port other_phase)
-    {plan : Plan} (is : plan ≡ message_plan c x e) {key value : Bytes} (key_is : key ≡ frame_at 0 msg) (value_is : value ≡ frame_at 4 msg) where
+    {plan : Result Plan Refusal} (is : plan ≡ message_plan c x e) {key value : Bytes} (key_is : key ≡ frame_at 0 msg) (value_is : value ≡ frame_at 4 msg) where
   carries : Carries e key value
   carries = rw (key_is, value_is) m.carries
 
@@ -74,7 +50,7 @@ module _ {c : Client} {x : Call} {msg : Bytes} {e : Effect} {port : List (Check 
   fitting_plan t = rw (same_sizes c.header e).0 t.room
 
   -- what is known where a row is to be stored
-  module _ {change : Change} {after : Header} {kind : Kind} (q : plan ≡ Store change after kind) where
+  module _ {change : Change} {after : Header} {kind : Kind} (q : plan ≡ Ok (Store change after kind)) where
     accepted : refusal_of c x ≡ none
     accepted = (plan_stored (refusal_of c x) is q).0
 
@@ -100,21 +76,21 @@ module _ {c : Client} {x : Call} {msg : Bytes} {e : Effect} {port : List (Check 
   unfolding Storable
   storable = go plan refl
     where
-      go : (p : Plan) → plan ≡ p → Storable p c.header.count key value
-      go (Refuse r) q = tt
-      go (Note after kind) q = tt
-      go (Store change after kind) q = (change_fits q, (key-short key (row q).1.key_good, (row q).1.value-short))
+      go : (p : Result Plan Refusal) → plan ≡ p → Storable p c.header.count key value
+      go (Err r) q = tt
+      go (Ok (Note after kind)) q = tt
+      go (Ok (Store change after kind)) q = (change_fits q, (key-short key (row q).1.key_good, (row q).1.value-short))
 
   finished : refusal_of c x ≡ none → (c' : Client) {a : Answer} {kind : Kind} → a ≡ answer kind 0 → kind ≡ effect_kind c.header.number.0 e → Done c e key value c' → Answered c x [] c' a []
   unfolding put
   finished f c' told kind_is d =
       accepted_call c x [] c' _ [] f (told ∙ rw (kind_is, m.kind, m.bytes)) (done_view c key value c' e carries d ∙ sym m.next) (rw m.bytes) (λ w. client_good c' (done_good c key value c' e (taken m f) carries d))
 
-  module _ (bytes' lengths' : List ℕ) (o : Outcome) where
+  module _ (bytes' lengths' : List ℕ) (o : Outcome Header) where
     abbrev left : Client
     left = lent bytes' lengths' c.subtree o.header
 
-    noted_done : {after : Header} {kind : Kind} → plan ≡ Note after kind → bytes' ≡ c.bytes → lengths' ≡ c.lengths → o.header ≡ after → o.answer ≡ answer kind 0 → Answered c x [] left o.answer []
+    noted_done : {after : Header} {kind : Kind} → plan ≡ Ok (Note after kind) → bytes' ≡ c.bytes → lengths' ≡ c.lengths → o.header ≡ after → o.answer ≡ answer kind 0 → Answered c x [] left o.answer []
     noted_done q same_bytes same-lengths header told =
         let s = plan_noted (refusal_of c x) is q in
         let t = taken m s.0 in
@@ -131,7 +107,7 @@ module _ {c : Client} {x : Call} {msg : Bytes} {e : Effect} {port : List (Check 
           good = rw (counts, same_bytes, same-lengths) t.good.rows;
         })
 
-    stored_done : {change : Change} {after : Header} {kind : Kind} → plan ≡ Store change after kind → Stored change key value c.header.count c.bytes c.lengths bytes' lengths'
+    stored_done : {change : Change} {after : Header} {kind : Kind} → plan ≡ Ok (Store change after kind) → Stored change key value c.header.count c.bytes c.lengths bytes' lengths'
         → o.header ≡ after → o.answer ≡ answer kind 0 → Answered c x [] left o.answer []
     stored_done {change} q d header told =
         let a = stored q in
@@ -153,9 +129,9 @@ module _ {c : Client} {x : Call} {msg : Bytes} {e : Effect} {port : List (Check 
     unfolding CarriedOut
     carried = go plan refl
       where
-        go : (p : Plan) → plan ≡ p → CarriedOut p c.header key value c.bytes c.lengths bytes' lengths' o → Answered c x [] left o.answer []
-        go (Refuse r) q d =
+        go : (p : Result Plan Refusal) → plan ≡ p → CarriedOut p c.header key value c.bytes c.lengths bytes' lengths' o → Answered c x [] left o.answer []
+        go (Err r) q d =
             refused_call c x [] left o.answer r (plan_refused (refusal_of c x) is q (λ n p. not_refused (key_list c) (effect_header c.header e) (effect_kind c.header.number.0 e) (effect_row e) (fitting_plan (taken m n)) p))
             (rw (d.0, d.1.0, d.1.1.0)) d.1.1.1
-        go (Note after kind) q d = noted_done q d.0 d.1.0 d.1.1.0 d.1.1.1
-        go (Store change after kind) q d = stored_done q d.0 d.1.0 d.1.1
+        go (Ok (Note after kind)) q d = noted_done q d.0 d.1.0 d.1.1.0 d.1.1.1
+        go (Ok (Store change after kind)) q d = stored_done q d.0 d.1.0 d.1.1

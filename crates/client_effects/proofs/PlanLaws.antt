@@ -1,25 +1,24 @@
--- Laws of plans: a change of a row is planned unless it is one too many, and what is then planned for an effect is what
--- its checks and its phase leave of it. Assumes nothing.
+-- Laws of plans: a change of a row that is not one too many is one that the rows allow, and what is planned for an effect
+-- is what its checks and its phase leave of it. Assumes nothing.
 use Prim.Native.Nat.{ℕ, ◌≤◌}
 use native.Mathlib.Omega.{arith}
-use mathlib.Core.Bool.{Bool, true, false, not, cond}
+use mathlib.Core.Bool.{Bool, true, false, cond}
 use mathlib.Core.List.{List}
 use mathlib.Core.Option.{Option, none, some}
 use mathlib.Core.Path.{◌≡◌, refl, sym, ap, ◌∙◌}
 use lib.ListN.{length}
-use borrow.Author.Tests.{eq-eqb, ne_eqb}
+use Rattle.std.specs.Prelude.{Result, Ok, Err}
 use Rattle.answers.specs.declared.answer.Kind.{Kind}
-use Rattle.answers.specs.declared.refusal.Refusal.TheVariants.{Full, Phase}
+use Rattle.answers.specs.declared.refusal.Refusal.TheVariants.{Full}
 use Rattle.answers.specs.declared.refusal.Refusal.{Refusal}
 use Rattle.base.specs.Bytes.{Bytes, is_nil}
 use Rattle.base.specs.Checks.{first_refusal}
 use Rattle.client_calls.specs.Answers.{effect_kind}
 use Rattle.client_calls.specs.Effects.{Effect, sync, finish, hear, stale, outside, apply}
 use Rattle.client_calls.specs.Refusals.{overfilled_by, effect_checks}
-use Rattle.client_effects.specs.Plans.{counted, effect_header, effect_row, row_change, plan_unless, plan_in_phase, row_plan, plan_with, effect_plan}
-use Rattle.client_effects.specs.declared.Plan.TheVariants.{Refuse, Note, Store}
+use Rattle.client_effects.specs.Plans.{counted, effect_header, effect_row, row_change, plan_unless, plan_in_phase, plan_with, effect_plan}
+use Rattle.client_effects.specs.declared.Plan.TheVariants.{Note, Store}
 use Rattle.client_effects.specs.declared.Plan.{Plan}
-use Rattle.client_state.specs.Views.{is_waiting}
 use Rattle.client_state.specs.declared.Header.{Header}
 use Rattle.row_cells.specs.Sizes.{max_rows}
 use Rattle.row_change.specs.Changes.{count_after, Fits, is_over}
@@ -28,16 +27,6 @@ use Rattle.row_search.proofs.FindLaws.{over_is, change_fits}
 use Rattle.row_search.specs.Places.{place_of, is_found, change_to}
 
 -- ---- a row that is set or removed
-module _ (change : Change) (h : Header) (kind : Kind) {made : Change} (is : made ≡ change) {r : Bool} (over : r ≡ is_over made h.count) where
-  says : {t : Bool} → r ≡ t → is_over change h.count ≡ t
-  says e = ap (λ (c : Change). is_over c h.count) (sym is) ∙ sym over ∙ e
-
-  pub row_full : r ≡ true → Refuse Full ≡ row_plan change h kind
-  row_full e = rw (says e)
-
-  pub row_fits : r ≡ false → {n : ℕ} → n ≡ count_after made h.count → Store made (counted h n) kind ≡ row_plan change h kind
-  row_fits e n-is = rw (says e, n-is) (ap (λ (c : Change). Store c (counted h (count_after c h.count)) kind) is)
-
 -- a change that is not one too many is one that the rows allow
 pub made_fits : (removes : Bool) (key : Bytes) (keys : List Bytes) (n : ℕ) → length keys ≡ n → n ≤ max_rows → {made : Change} → made ≡ change_to removes (place_of 0 key keys) → is_over made n ≡ false → Fits made n
 made_fits removes key keys n many few is over = rw is (change_fits key keys keys refl n many removes few (rw is at over))
@@ -71,7 +60,7 @@ module _ (keys : List Bytes) where
   room_planned none h kind n e = refl
   room_planned (some row) h kind n e = rw (← e) (go (is_over (row_change (some row) keys) h.count) _)
     where
-      go : (t : Bool) (store : Plan) → plan_unless (cond t (some Full) none) (cond t (Refuse Full) store) ≡ cond t (Refuse Full) store
+      go : (t : Bool) (store : Result Plan Refusal) → plan_unless (cond t (some Full) none) (cond t (Err Full) store) ≡ cond t (Err Full) store
       go true store = refl
       go false store = refl
 
@@ -82,45 +71,30 @@ module _ (keys : List Bytes) where
   checks_planned h e false =
       rw (over_same e h.count) (room_planned (effect_row e) (effect_header h e) (effect_kind h.number.0 e) h.count (same_sizes h e).0)
 
--- ---- the phase
--- of a message for clients that wait, and of one for clients that are live
-module _ (phase : ℕ) (plan : Plan) where
-  pub too_late : (phase ≡ 0 → ⊥) → Refuse Phase ≡ plan_in_phase (not (is_waiting phase)) plan
-  too_late e = rw (ne_eqb phase 0 e)
-
-  pub still_waits : phase ≡ 0 → {p : Plan} → p ≡ plan → p ≡ plan_in_phase (not (is_waiting phase)) plan
-  still_waits e is = is ∙ rw (eq-eqb phase 0 e)
-
-  pub too_early : phase ≡ 0 → Refuse Phase ≡ plan_in_phase (is_waiting phase) plan
-  too_early e = rw (eq-eqb phase 0 e)
-
-  pub is_live : (phase ≡ 0 → ⊥) → {p : Plan} → p ≡ plan → p ≡ plan_in_phase (is_waiting phase) plan
-  is_live e is = is ∙ rw (ne_eqb phase 0 e)
-
 -- ---- for cases that cannot be
 pub clash : {A : Type 0} → ◌≡◌ {A = ℕ} 0 1 → A
 clash z = absurd (omega arith)
 
 -- ---- what a plan says of the refusal, and of the effect where there is none
-module _ (x : Option Refusal) {whole plan : Plan} (is : whole ≡ plan_unless x plan) where
-  pub plan_refused : {r : Refusal} → whole ≡ Refuse r → (x ≡ none → plan ≡ Refuse r → ⊥) → x ≡ some r
+module _ (x : Option Refusal) {whole plan : Result Plan Refusal} (is : whole ≡ plan_unless x plan) where
+  pub plan_refused : {r : Refusal} → whole ≡ Err r → (x ≡ none → plan ≡ Err r → ⊥) → x ≡ some r
   plan_refused {r} p never = go x (sym is ∙ p) never
     where
-      go : (y : Option Refusal) → plan_unless y plan ≡ Refuse r → (y ≡ none → plan ≡ Refuse r → ⊥) → y ≡ some r
+      go : (y : Option Refusal) → plan_unless y plan ≡ Err r → (y ≡ none → plan ≡ Err r → ⊥) → y ≡ some r
       go none q n = absurd (n refl q)
       go (some s) q n = let i : s ≡ r = cc in ap some i
 
-  pub plan_noted : {after : Header} {kind : Kind} → whole ≡ Note after kind → (x ≡ none) × (plan ≡ Note after kind)
+  pub plan_noted : {after : Header} {kind : Kind} → whole ≡ Ok (Note after kind) → (x ≡ none) × (plan ≡ Ok (Note after kind))
   plan_noted {after} {kind} p = go x (sym is ∙ p)
     where
-      go : (y : Option Refusal) → plan_unless y plan ≡ Note after kind → (y ≡ none) × (plan ≡ Note after kind)
+      go : (y : Option Refusal) → plan_unless y plan ≡ Ok (Note after kind) → (y ≡ none) × (plan ≡ Ok (Note after kind))
       go none q = (refl, q)
       go (some s) q = clash cc
 
-  pub plan_stored : {change : Change} {after : Header} {kind : Kind} → whole ≡ Store change after kind → (x ≡ none) × (plan ≡ Store change after kind)
+  pub plan_stored : {change : Change} {after : Header} {kind : Kind} → whole ≡ Ok (Store change after kind) → (x ≡ none) × (plan ≡ Ok (Store change after kind))
   plan_stored {change} {after} {kind} p = go x (sym is ∙ p)
     where
-      go : (y : Option Refusal) → plan_unless y plan ≡ Store change after kind → (y ≡ none) × (plan ≡ Store change after kind)
+      go : (y : Option Refusal) → plan_unless y plan ≡ Ok (Store change after kind) → (y ≡ none) × (plan ≡ Ok (Store change after kind))
       go none q = (refl, q)
       go (some s) q = clash cc
 
@@ -134,16 +108,16 @@ pub record StoredAs (row : Option (Bool × Bytes)) (keys : List Bytes) (h : Head
 
 -- a plan that stores nothing too many
 module _ (keys : List Bytes) (h : Header) (kind : Kind) where
-  pub not_refused : (row : Option (Bool × Bytes)) → is_over (row_change row keys) h.count ≡ false → {r : Refusal} → plan_with row keys h kind ≡ Refuse r → ⊥
+  pub not_refused : (row : Option (Bool × Bytes)) → is_over (row_change row keys) h.count ≡ false → {r : Refusal} → plan_with row keys h kind ≡ Err r → ⊥
   not_refused none room q = clash cc
   not_refused (some row) room q = let p = rw room at q in clash cc
 
-  pub is_noted : (row : Option (Bool × Bytes)) → is_over (row_change row keys) h.count ≡ false → {after : Header} {k : Kind} → plan_with row keys h kind ≡ Note after k
+  pub is_noted : (row : Option (Bool × Bytes)) → is_over (row_change row keys) h.count ≡ false → {after : Header} {k : Kind} → plan_with row keys h kind ≡ Ok (Note after k)
       → (row ≡ none) × ((after ≡ h) × (k ≡ kind))
   is_noted none room q = (refl, (cc, cc))
   is_noted (some row) room q = let p = rw room at q in clash cc
 
-  pub is_stored : (row : Option (Bool × Bytes)) → is_over (row_change row keys) h.count ≡ false → {change : Change} {after : Header} {k : Kind} → plan_with row keys h kind ≡ Store change after k
+  pub is_stored : (row : Option (Bool × Bytes)) → is_over (row_change row keys) h.count ≡ false → {change : Change} {after : Header} {k : Kind} → plan_with row keys h kind ≡ Ok (Store change after k)
       → StoredAs row keys h kind change after k
   is_stored none room q = clash cc
   is_stored (some row) room q = let p = rw room at q in record { own = row; row_is = refl; change_is = cc; after_is = cc; kind_is = cc }

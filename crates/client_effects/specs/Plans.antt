@@ -1,5 +1,5 @@
 -- What a message is found to come to before it is acted on: its refusal, or what is to be done.
-use Rattle.std.specs.Prelude.{ℕ, Bool, false, cond, List}
+use Rattle.std.specs.Prelude.{ℕ, Bool, false, cond, List, Result, Ok, Err}
 use Rattle.std.proofs.Math.Option.{Option, none, some}
 use Rattle.answers.specs.declared.answer.Kind.{Kind}
 use Rattle.answers.specs.declared.refusal.Refusal.TheVariants.{Full, Phase}
@@ -9,7 +9,7 @@ use Rattle.client_calls.specs.Answers.{effect_kind}
 use Rattle.client_calls.specs.Calls.{Call}
 use Rattle.client_calls.specs.Effects.{Effect, sync, finish, hear, stale, outside, apply}
 use Rattle.client_calls.specs.Refusals.{refusal_of}
-use Rattle.client_effects.specs.declared.Plan.TheVariants.{Refuse, Note, Store}
+use Rattle.client_effects.specs.declared.Plan.TheVariants.{Note, Store}
 use Rattle.client_effects.specs.declared.Plan.{Plan}
 use Rattle.client_state.specs.Views.{key_list}
 use Rattle.client_state.specs.declared.Client.{Client}
@@ -55,26 +55,26 @@ row_change (some row) keys = change_to row.0 (place_of 0 row.1 keys)
 
 -- ---- plans
 -- a refusal, if there is one, or what is to be done
-abbrev pub plan_unless : Option Refusal → Plan → Plan
+abbrev pub plan_unless : Option Refusal → Result Plan Refusal → Result Plan Refusal
 plan_unless none plan = plan
-plan_unless (some r) plan = Refuse r
+plan_unless (some r) plan = Err r
 
 -- a message for the other phase is refused
-abbrev pub plan_in_phase : Bool → Plan → Plan
-plan_in_phase other_phase plan = cond other_phase (Refuse Phase) plan
+abbrev pub plan_in_phase : Bool → Result Plan Refusal → Result Plan Refusal
+plan_in_phase other_phase plan = cond other_phase (Err Phase) plan
 
 -- a change of a row that may be one too many, by the header after it but for the count
-abbrev pub row_plan : Change → Header → Kind → Plan
-row_plan change h kind = cond (is_over change h.count) (Refuse Full) (Store change (counted h (count_after change h.count)) kind)
+abbrev pub row_plan : Change → Header → Kind → Result Plan Refusal
+row_plan change h kind = cond (is_over change h.count) (Err Full) (Ok (Store change (counted h (count_after change h.count)) kind))
 
-abbrev pub plan_with : Option (Bool × Bytes) → List Bytes → Header → Kind → Plan
-plan_with none keys h kind = Note h kind
+abbrev pub plan_with : Option (Bool × Bytes) → List Bytes → Header → Kind → Result Plan Refusal
+plan_with none keys h kind = Ok (Note h kind)
 plan_with (some row) keys h kind = row_plan (row_change (some row) keys) h kind
 
 -- an effect, at a client with these keys and this header
-abbrev pub effect_plan : List Bytes → Header → Effect → Plan
+abbrev pub effect_plan : List Bytes → Header → Effect → Result Plan Refusal
 effect_plan keys h e = plan_with (effect_row e) keys (effect_header h e) (effect_kind h.number.0 e)
 
 -- a call that hands in a message with this effect
-abbrev pub message_plan : Client → Call → Effect → Plan
+abbrev pub message_plan : Client → Call → Effect → Result Plan Refusal
 message_plan c x e = plan_unless (refusal_of c x) (effect_plan (key_list c) c.header e)

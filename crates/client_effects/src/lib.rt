@@ -15,11 +15,9 @@ use client_state::Header;
 use row_cells::{RowBytes, RowLengths, fresh};
 use row_change::Change;
 
-// It is refused; or the header changes alone, or a row with it, and the answer is of a kind. The header is that after
-// the call.
+// The header changes alone, or a row with it, and the answer is of a kind. The header is that after the call.
 #[derive(Clone, Copy)]
 pub enum Plan {
-    Refuse(Refusal),
     Note(Header, Kind),
     Store(Change, Header, Kind),
 }
@@ -32,28 +30,28 @@ pub fn plan_row<'a>(
     key: &'a [u8],
     removes: bool,
     kind: Kind,
-) -> Plan
+) -> Result<Plan, Refusal>
     requires { GoodRows header.count bytes.now lengths.now }
     ensures { result ≡ row_plan (change_to removes (place_of 0 key.now
         (keys_of header.count bytes.now lengths.now))) header kind }
 {
-    let count = header.count;
-    let found = row_search::find_row(bytes, lengths, count, key);
+    let found = row_search::find_row(bytes, lengths, header.count, key);
     let change = row_search::change_to(removes, found);
-    if row_change::overfills(change, count) {
-        return Plan::Refuse(Refusal::Full);
+    if row_change::overfills(change, header.count) {
+        return Err(Refusal::Full);
     }
-    let mut counted = header;
-    counted.count = row_change::count_after(change, count);
-    Plan::Store(change, counted, kind)
+    let count = row_change::count_after(change, header.count);
+    let counted = Header { count, ..header };
+    Ok(Plan::Store(change, counted, kind))
 }
 
 // Carries out a plan on a client whose arrays are lent. A row that it stores has the key and the value.
+#[tactic(auto, unfolding(crate::specs::Carried::Storable, crate::specs::Carried::CarriedOut))]
 pub fn carry_out(
     bytes: &mut RowBytes,
     lengths: &mut RowLengths,
     header: Header,
-    plan: Plan,
+    plan: Result<Plan, Refusal>,
     key: &[u8],
     value: &[u8],
 ) -> Outcome
@@ -62,12 +60,12 @@ pub fn carry_out(
         bytes.old lengths.old bytes.new lengths.new result }
 {
     match plan {
-        Plan::Refuse(r) => client_calls::refused(header, r),
-        Plan::Note(after, kind) => client_calls::accepted(after, kind),
-        Plan::Store(change, after, kind) => {
+        Err(r) => Outcome::refused(header, r),
+        Ok(Plan::Note(after, kind)) => Outcome::accepted(after, kind, 0),
+        Ok(Plan::Store(change, after, kind)) => {
             let row = fresh::fresh_row(key, value);
             row_change::change_row(bytes, lengths, change, header.count, row);
-            client_calls::accepted(after, kind)
+            Outcome::accepted(after, kind, 0)
         }
     }
 }

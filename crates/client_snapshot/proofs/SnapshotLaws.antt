@@ -4,6 +4,7 @@ use mathlib.Core.Bool.{Bool, true, false, not, cond}
 use mathlib.Core.List.{List, []}
 use mathlib.Core.Path.{◌≡◌, refl, ap, ◌∙◌}
 use borrow.Author.Tests.{not-false}
+use Rattle.std.specs.Prelude.{Result}
 use Rattle.answers.specs.declared.refusal.Refusal.{Refusal}
 use Rattle.base.proofs.CheckLaws.{both_passed}
 use Rattle.base.specs.Bytes.{Bytes, same}
@@ -73,7 +74,7 @@ snapshot-sends c msg =
     }
 
 -- ---- what is read, by the split of the message and the part of the subtree's array that counts
-pub sent_is : (msg : Bytes) (r : Split) → IsSplit msg r → {own subtree : Bytes} → own ≡ subtree → {s : Sent} → s ≡ sent_of (fields_at msg r.places) (first_refusal (snapshot_by own msg r))
+pub sent_is : (msg : Bytes) (r : Split) → IsSplit msg r → {own subtree : Bytes} → own ≡ subtree → {s : Result Sent Refusal} → s ≡ sent_of (fields_at msg r.places) (first_refusal (snapshot_by own msg r))
     → s ≡ sent_of (fields_of msg) (first_refusal (snapshot_port subtree msg))
 sent_is msg r h {own} own_is e =
     e
@@ -82,7 +83,7 @@ sent_is msg r h {own} own_is e =
     ∙ ap (λ (b : Bytes). sent_of (fields_of msg) (first_refusal (snapshot_port b msg))) own_is
 
 -- KTHXBAI, or else KVSYNC
-module _ (keys : List Bytes) (h : Header) (f : Fields) (other_phase : Bool) {p : Plan} where
+module _ (keys : List Bytes) (h : Header) (f : Fields) (other_phase : Bool) {p : Result Plan Refusal} where
   pub ends : same word_kthxbai f.head ≡ true → {m : Sequence} → m ≡ sequence (number f.sequence) → p ≡ plan_in_phase other_phase (effect_plan [] h (finish m.0))
       → p ≡ plan_in_phase other_phase (effect_plan keys h (snapshot_effect f))
   ends word m-is is = is ∙ rw (word, m-is)

@@ -9,7 +9,7 @@ ghost use Rattle.row_cells.specs.Faults.{GoodRows};
 ghost use Rattle.row_cells.specs.Texts.{keys_of};
 
 use answers::answer::Kind;
-use answers::refusal::{Refusal, Verdict};
+use answers::refusal::Refusal;
 use client_effects::Plan;
 use client_ports::snapshot;
 use client_ports::snapshot::Sent;
@@ -20,17 +20,18 @@ use numbers::sequence::Sequence;
 use row_cells::{RowBytes, RowLengths};
 
 // KTHXBAI: the client is live, at the server's number.
-fn plan_kthxbai(header: Header, last: Sequence) -> Plan
+fn plan_kthxbai(header: Header, last: Sequence) -> Result<Plan, Refusal>
     ensures { result ≡ plan_in_phase (not (is_waiting header.phase)) (effect_plan [] header (finish last.0)) }
 {
-    let phase = header.phase;
-    if phase != WAITING {
-        return Plan::Refuse(Refusal::Phase);
+    if header.phase != WAITING {
+        return Err(Refusal::Phase);
     }
-    let mut after = header;
-    after.phase = LIVE;
-    after.number = last;
-    Plan::Note(after, Kind::Live(last))
+    let after = Header {
+        phase: LIVE,
+        number: last,
+        ..header
+    };
+    Ok(Plan::Note(after, Kind::Live(last)))
 }
 
 // KVSYNC: a row of the snapshot.
@@ -39,17 +40,16 @@ fn plan_kvsync<'a>(
     lengths: &'a RowLengths,
     header: Header,
     key: &'a [u8],
-) -> Plan
+) -> Result<Plan, Refusal>
     requires { GoodRows header.count bytes.now lengths.now }
     ensures { result ≡ plan_in_phase (not (is_waiting header.phase)) (effect_plan
         (keys_of header.count bytes.now lengths.now) header (sync key.now [])) }
 {
-    let phase = header.phase;
-    let number = header.number;
-    if phase != WAITING {
-        return Plan::Refuse(Refusal::Phase);
+    if header.phase != WAITING {
+        return Err(Refusal::Phase);
     }
-    client_effects::plan_row(bytes, lengths, header, key, false, Kind::Synced(number))
+    let kind = Kind::Synced(header.number);
+    client_effects::plan_row(bytes, lengths, header, key, false, kind)
 }
 
 // The checks of a message in their order, and what it does where it passes them.
@@ -60,27 +60,19 @@ pub(crate) fn plan_snapshot<'a>(
     header: Header,
     msg: &'a [u8],
     split: Split,
-) -> Plan
+) -> Result<Plan, Refusal>
     requires { IsSplit msg.now split }
     ensures { result ≡ snapshot_plan
         (lent bytes.now lengths.now subtree.now header) msg.now }
 {
-    match validate::check_state(bytes, lengths, subtree, header) {
-        Verdict::Refuse(r) => Plan::Refuse(r),
-        Verdict::Accept => {
-            let own = subtrees::subtree_in(subtree, header.subtree_length);
-            match snapshot::read_sent(msg, split, own) {
-                Sent::Refuse(r) => Plan::Refuse(r),
-                Sent::Kthxbai(last) => plan_kthxbai(header, last),
-                Sent::Kvsync => {
-                    plan_kvsync(
-                        bytes,
-                        lengths,
-                        header,
-                        framing::body(msg, split.places, HEAD),
-                    )
-                }
-            }
+    validate::check_state(bytes, lengths, subtree, header)?;
+    let own = subtrees::subtree_in(subtree, header.subtree_length);
+    let sent = snapshot::read_sent(msg, split, own)?;
+    match sent {
+        Sent::Kthxbai(last) => plan_kthxbai(header, last),
+        Sent::Kvsync => {
+            let key = framing::body(msg, split.places, HEAD);
+            plan_kvsync(bytes, lengths, header, key)
         }
     }
 }

@@ -6,13 +6,13 @@ use mathlib.Core.List.{[], zip_with, append-nil}
 use mathlib.Core.Path.{◌≡◌, refl, sym, ap, ◌∙◌}
 use lib.ListN.{length, take}
 use borrow.Author.Tests.{leb-true, not-false}
+use Rattle.std.specs.Prelude.{Ok, Err}
 use Rattle.answers.proofs.VerdictLaws.{accepted, refused}
 use Rattle.answers.specs.Answers.{answer}
 use Rattle.answers.specs.Refusals.{verdict}
 use Rattle.answers.specs.declared.answer.Answer.{Answer}
 use Rattle.answers.specs.declared.answer.Kind.TheVariants.{Refused, Started}
 use Rattle.answers.specs.declared.refusal.Refusal.{Refusal}
-use Rattle.answers.specs.declared.refusal.Verdict.TheVariants.{Accept, Refuse}
 use Rattle.base.proofs.CheckLaws.{passed}
 use Rattle.base.proofs.OutputLaws.{place, output}
 use Rattle.base.specs.Bytes.{Bytes, every}
@@ -65,11 +65,11 @@ pub padded : {subtree : Bytes} {t : ℕ} {c : Client} → Waits subtree t c → 
 padded w d e = e ∙ ap (put d 0) (sym w.subtree_is)
 
 module _ (subtree : Bytes) (t : ℕ) where
-  known : Accept ≡ verdict (first_refusal (start_checks subtree t)) → is_subtree subtree ≡ true
+  known : Ok tt ≡ verdict (first_refusal (start_checks subtree t)) → is_subtree subtree ≡ true
   known e = not-false _ (passed 0 (start_checks subtree t) (accepted (first_refusal (start_checks subtree t)) e))
 
   -- a subtree that is accepted fits its array, of which it is then the front
-  pub placed : Accept ≡ verdict (first_refusal (start_checks subtree t)) → (d : Bytes) → length d ≡ key_room → {i : ℕ} {o : Bytes} → Written d 0 subtree i o
+  pub placed : Ok tt ≡ verdict (first_refusal (start_checks subtree t)) → (d : Bytes) → length d ≡ key_room → {i : ℕ} {o : Bytes} → Written d 0 subtree i o
       → (i ≡ length subtree) × (take i o ≡ subtree)
   placed e d z {i} {o} w =
       let s = subtree-short subtree (known e) in
@@ -77,14 +77,14 @@ module _ (subtree : Bytes) (t : ℕ) where
       let n : i ≡ length subtree = omega (arith, place w f) in
       (n, ap (take i) (sym (append-nil o)) ∙ written_front d subtree [] (omega arith) w n)
 
-  pub filled : Accept ≡ verdict (first_refusal (start_checks subtree t)) → (d : Bytes) → length d ≡ key_room → {i : ℕ} {o : Bytes} → Written d 0 subtree i o → o ≡ put d 0 subtree
+  pub filled : Ok tt ≡ verdict (first_refusal (start_checks subtree t)) → (d : Bytes) → length d ≡ key_room → {i : ℕ} {o : Bytes} → Written d 0 subtree i o → o ≡ put d 0 subtree
   filled e d z w =
       let s = subtree-short subtree (known e) in
       let f : 0 + length subtree ≤ length d = omega arith in
       output w f
 
   module _ (c : Client) (a : Answer) where
-    pub begun : Accept ≡ verdict (first_refusal (start_checks subtree t)) → Waits subtree t c → a ≡ answer (Started (sequence 0)) 0 → Began subtree t c a
+    pub begun : Ok tt ≡ verdict (first_refusal (start_checks subtree t)) → Waits subtree t c → a ≡ answer (Started (sequence 0)) 0 → Began subtree t c a
     unfolding start_of start_answer start_refusal
     begun e w told =
         let n = accepted (first_refusal (start_checks subtree t)) e in
@@ -94,7 +94,7 @@ module _ (subtree : Bytes) (t : ℕ) where
           well_formed = waiting_good subtree t c w (known e) (leb-true t max_tick (not-false _ (passed 1 (start_checks subtree t) n)));
         }
 
-    pub not_begun : (reason : Refusal) → Refuse reason ≡ verdict (first_refusal (start_checks subtree t)) → Waits [] 0 c → a ≡ answer (Refused reason (sequence 0)) 0 → Began subtree t c a
+    pub not_begun : (reason : Refusal) → Err reason ≡ verdict (first_refusal (start_checks subtree t)) → Waits [] 0 c → a ≡ answer (Refused reason (sequence 0)) 0 → Began subtree t c a
     unfolding start_of start_answer start_refusal
     not_begun reason e w told =
         let n = refused reason (first_refusal (start_checks subtree t)) e in

@@ -13,7 +13,7 @@ ghost use Rattle.keys.specs.Keys.{key_room};
 ghost use Rattle.row_cells.specs.Sizes.{byte_count, word_count, length_count};
 
 use answers::answer::Kind;
-use answers::refusal::{Refusal, Verdict};
+use answers::refusal::Refusal;
 use base::output;
 use client_calls::Outcome;
 use client_state::{Header, SubtreeBytes, WAITING};
@@ -23,16 +23,17 @@ use numbers::tick;
 use numbers::tick::Tick;
 use row_cells::{CELL, LENGTHS, MAX_ROWS, RowBytes, RowLengths};
 
-fn check_start(wanted: &[u8], tick: Tick) -> Verdict
+#[tactic(auto, unfolding(base::specs::Checks::first_refusal))]
+fn check_start(wanted: &[u8], tick: Tick) -> Result<(), Refusal>
     ensures { result ≡ verdict (first_refusal (start_checks wanted.now tick.0)) }
 {
     if !keys::is_subtree(wanted) {
-        return Verdict::Refuse(Refusal::BadSubtree);
+        return Err(Refusal::BadSubtree);
     }
     if !tick::is_time(tick) {
-        return Verdict::Refuse(Refusal::BadTick);
+        return Err(Refusal::BadTick);
     }
-    Verdict::Accept
+    Ok(())
 }
 
 // The header of a client without rows that waits from a tick on for the snapshot of a subtree, which is so long.
@@ -67,10 +68,10 @@ pub fn start_lent(
     *lengths = [0; MAX_ROWS * LENGTHS];
     *subtree = [0; KEY_ROOM];
     match check_start(wanted, tick) {
-        Verdict::Refuse(r) => client_calls::refused(waiting(Tick(0), 0), r),
-        Verdict::Accept => {
+        Err(r) => Outcome::refused(waiting(Tick(0), 0), r),
+        Ok(()) => {
             let length = output::put_bytes(subtree, 0, wanted);
-            client_calls::accepted(waiting(tick, length), Kind::Started(Sequence(0)))
+            Outcome::accepted(waiting(tick, length), Kind::Started(Sequence(0)), 0)
         }
     }
 }

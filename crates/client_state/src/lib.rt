@@ -1,6 +1,7 @@
 // The state of a client: the rows under its subtree, the subtree, and a header.
 #![tactic(auto)]
 
+use answers::outcome::Numbered;
 use keys::KEY_ROOM;
 use numbers::sequence::Sequence;
 use numbers::tick::Tick;
@@ -10,7 +11,7 @@ pub mod subtree;
 pub mod validate;
 
 // The phase of a client that waits for its snapshot, and that of one that has it. Any number but the first means the
-// second.
+// second: the C interface lends it as a word of any bits, so it is no enum.
 pub const WAITING: u64 = 0;
 
 pub const LIVE: u64 = 1;
@@ -26,6 +27,14 @@ pub struct Header {
     pub clock: Tick,
     pub subtree_length: u64,
     pub count: usize,
+}
+
+impl Numbered for Header {
+    ghost number_of = { λ h. h.number };
+
+    fn number(&self) -> Sequence {
+        self.number
+    }
 }
 
 // Row i has cell i of bytes and of lengths. The subtree is at the front of its array.

@@ -7,7 +7,7 @@ use mathlib.Core.Option.{Option, none, some}
 use mathlib.Core.Path.{◌≡◌, refl, sym, ap, ◌∙◌}
 use lib.Dec.{leb}
 use borrow.Author.Tests.{leb-true, not-false}
-use Rattle.answers.proofs.VerdictLaws.{refused}
+use Rattle.std.specs.Prelude.{Result, Err}
 use Rattle.answers.specs.declared.refusal.Refusal.{Refusal}
 use Rattle.base.proofs.CheckLaws.{passed, pass_all, stop_all, both_passed}
 use Rattle.base.specs.Bytes.{Bytes, same}
@@ -22,7 +22,6 @@ use Rattle.client_calls.specs.Refusals.{time_checks, call_checks}
 use Rattle.client_effects.proofs.CallLaws.{Sends, plan_stopped, plan_passed}
 use Rattle.client_effects.proofs.EffectLaws.{InPhase, InTime, Carries}
 use Rattle.client_effects.specs.Plans.{plan_unless, plan_in_phase, effect_plan, message_plan}
-use Rattle.client_effects.specs.declared.Plan.TheVariants.{Refuse}
 use Rattle.client_effects.specs.declared.Plan.{Plan}
 use Rattle.client_ports.specs.Readings.{published_of}
 use Rattle.client_ports.specs.declared.subscriber.Published.{Published}
@@ -86,7 +85,7 @@ subscriber-sends c msg t =
     }
 
 -- ---- what is read, by the split of the message
-pub published_is : (msg : Bytes) (r : Split) → IsSplit msg r → {s : Published} → s ≡ published_of (fields_at msg r.places) (first_refusal (subscriber_by msg r))
+pub published_is : (msg : Bytes) (r : Split) → IsSplit msg r → {s : Result Published Refusal} → s ≡ published_of (fields_at msg r.places) (first_refusal (subscriber_by msg r))
     → s ≡ published_of (fields_of msg) (first_refusal (subscriber_port msg))
 published_is msg r h e =
     e
@@ -94,18 +93,18 @@ published_is msg r h e =
     ∙ ap (λ (f : Fields). published_of f (first_refusal (subscriber_port msg))) (fields_are msg r h)
 
 module _ (c : Client) (w : WellFormed c) (msg : Bytes) (t : ℕ) where
-  abbrev wanted : Plan
+  abbrev wanted : Result Plan Refusal
   wanted = message_plan c (subscriber msg t) (published_effect c msg t)
 
   abbrev time : List (Check Refusal)
   time = time_checks c.header.clock.0 (fields_of msg) t
 
   -- refused by its frames
-  pub stops : {r : Refusal} → first_refusal (subscriber_port msg) ≡ some r → Refuse r ≡ wanted
+  pub stops : {r : Refusal} → first_refusal (subscriber_port msg) ≡ some r → Err r ≡ wanted
   stops {r} e = plan_stopped (subscriber-sends c msg t) w (stop_all (subscriber_port msg) time r e)
 
   -- HUGZ
-  pub hears : first_refusal (subscriber_port msg) ≡ none → same word_hugz (fields_of msg).head ≡ true → {p : Plan}
+  pub hears : first_refusal (subscriber_port msg) ≡ none → same word_hugz (fields_of msg).head ≡ true → {p : Result Plan Refusal}
       → p ≡ plan_unless (first_refusal (tick_checks c.header.clock.0 t)) (plan_in_phase (is_waiting c.header.phase) (effect_plan [] c.header (hear t))) → p ≡ wanted
   hears e word {p} is = go (first_refusal (tick_checks c.header.clock.0 t)) refl is
     where
@@ -118,7 +117,7 @@ module _ (c : Client) (w : WellFormed c) (msg : Bytes) (t : ℕ) where
 
   -- KVPUB
   pub updates : first_refusal (subscriber_port msg) ≡ none → same word_hugz (fields_of msg).head ≡ false → {m : Sequence} → m ≡ sequence (number (fields_of msg).sequence)
-      → {own key value : Bytes} → own ≡ subtree_of c → key ≡ (fields_of msg).head → value ≡ (fields_of msg).value → {p : Plan}
+      → {own key value : Bytes} → own ≡ subtree_of c → key ≡ (fields_of msg).head → value ≡ (fields_of msg).value → {p : Result Plan Refusal}
       → p ≡ plan_in_phase (is_waiting c.header.phase) (effect_plan (key_list c) c.header (update_by c.header.number.0 own m.0 key value)) → p ≡ wanted
   unfolding first_refusal
   updates e word m-is own_is key_is value_is is =

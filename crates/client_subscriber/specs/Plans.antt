@@ -1,5 +1,6 @@
 -- What a message at the subscriber entry comes to.
-use Rattle.std.specs.Prelude.{ℕ}
+use Rattle.std.specs.Prelude.{ℕ, Result}
+use Rattle.answers.specs.declared.refusal.Refusal.{Refusal}
 use Rattle.base.specs.Bytes.{Bytes}
 use Rattle.client_calls.specs.Calls.{subscriber}
 use Rattle.client_calls.specs.Effects.{Effect, subscriber_effect}
@@ -13,5 +14,5 @@ use Rattle.messages.specs.Fields.{fields_of}
 abbrev pub published_effect : Client → Bytes → ℕ → Effect
 published_effect c msg t = subscriber_effect c.header.number.0 (subtree_of c) (fields_of msg) t
 
-unfoldable pub subscriber_plan : Client → Bytes → ℕ → Plan
+unfoldable pub subscriber_plan : Client → Bytes → ℕ → Result Plan Refusal
 subscriber_plan c msg t = message_plan c (subscriber msg t) (published_effect c msg t)

@@ -4,7 +4,7 @@ ghost use Rattle.client_subscriber.specs.Plans.{subscriber_plan};
 ghost use Rattle.client_state.specs.Views.{lent};
 ghost use Rattle.framing.specs.Splits.{IsSplit};
 
-use answers::refusal::Verdict;
+use answers::refusal::Refusal;
 use client_effects::Plan;
 use client_ports::subscriber;
 use client_ports::subscriber::Published;
@@ -23,23 +23,21 @@ pub(crate) fn plan_subscriber<'a>(
     msg: &'a [u8],
     split: Split,
     tick: Tick,
-) -> Plan
+) -> Result<Plan, Refusal>
     requires { IsSplit msg.now split }
     ensures { result ≡ subscriber_plan
         (lent bytes.now lengths.now subtree.now header)
         msg.now tick.0 }
 {
-    match validate::check_state(bytes, lengths, subtree, header) {
-        Verdict::Refuse(r) => Plan::Refuse(r),
-        Verdict::Accept => match subscriber::read_published(msg, split) {
-            Published::Refuse(r) => Plan::Refuse(r),
-            Published::Hugz => client_updates::plan_hugz(header, tick),
-            Published::Kvpub(next) => {
-                let own = subtrees::subtree_in(subtree, header.subtree_length);
-                let key = framing::body(msg, split.places, HEAD);
-                let value = framing::body(msg, split.places, VALUE);
-                client_updates::plan_kvpub(bytes, lengths, own, header, next, key, value)
-            }
-        },
+    validate::check_state(bytes, lengths, subtree, header)?;
+    let published = subscriber::read_published(msg, split)?;
+    match published {
+        Published::Hugz => client_updates::plan_hugz(header, tick),
+        Published::Kvpub(next) => {
+            let own = subtrees::subtree_in(subtree, header.subtree_length);
+            let key = framing::body(msg, split.places, HEAD);
+            let value = framing::body(msg, split.places, VALUE);
+            client_updates::plan_kvpub(bytes, lengths, own, header, next, key, value)
+        }
     }
 }

@@ -11,7 +11,7 @@ ghost use Rattle.row_cells.specs.Faults.{GoodRows};
 ghost use Rattle.row_cells.specs.Texts.{keys_of};
 
 use answers::answer::Kind;
-use answers::refusal::{Refusal, Verdict};
+use answers::refusal::Refusal;
 use client_effects::Plan;
 use client_state::{Header, WAITING};
 use numbers::sequence;
@@ -21,24 +21,19 @@ use ports::time;
 use row_cells::{RowBytes, RowLengths};
 
 // HUGZ: its tick is looked at before the phase.
-pub fn plan_hugz(header: Header, tick: Tick) -> Plan
+pub fn plan_hugz(header: Header, tick: Tick) -> Result<Plan, Refusal>
     ensures { result ≡ plan_unless (first_refusal (tick_checks header.clock.0 tick.0))
         (plan_in_phase (is_waiting header.phase) (effect_plan [] header (hear tick.0))) }
 {
-    let phase = header.phase;
-    let number = header.number;
-    let clock = header.clock;
-    match time::check_tick(clock, tick) {
-        Verdict::Refuse(r) => Plan::Refuse(r),
-        Verdict::Accept => {
-            if phase == WAITING {
-                return Plan::Refuse(Refusal::Phase);
-            }
-            let mut after = header;
-            after.clock = tick;
-            Plan::Note(after, Kind::Heard(number))
-        }
+    time::check_tick(header.clock, tick)?;
+    if header.phase == WAITING {
+        return Err(Refusal::Phase);
     }
+    let after = Header {
+        clock: tick,
+        ..header
+    };
+    Ok(Plan::Note(after, Kind::Heard(header.number)))
 }
 
 // KVPUB: one that is not new changes nothing, and one outside the subtree no row.
@@ -50,25 +45,25 @@ pub fn plan_kvpub<'a>(
     next: Sequence,
     key: &'a [u8],
     value: &'a [u8],
-) -> Plan
+) -> Result<Plan, Refusal>
     requires { GoodRows header.count bytes.now lengths.now }
     ensures { result ≡ plan_in_phase (is_waiting header.phase) (effect_plan
         (keys_of header.count bytes.now lengths.now) header
         (update_by header.number.0 subtree.now next.0 key.now value.now)) }
 {
-    let phase = header.phase;
-    let number = header.number;
-    if phase == WAITING {
-        return Plan::Refuse(Refusal::Phase);
+    if header.phase == WAITING {
+        return Err(Refusal::Phase);
     }
-    if !sequence::is_above(next, number) {
-        return Plan::Note(header, Kind::Stale(number));
+    if !sequence::is_above(next, header.number) {
+        return Ok(Plan::Note(header, Kind::Stale(header.number)));
     }
-    let mut after = header;
-    after.number = next;
+    let after = Header {
+        number: next,
+        ..header
+    };
     if !keys::is_under(subtree, key) {
-        return Plan::Note(after, Kind::Outside(next));
+        return Ok(Plan::Note(after, Kind::Outside(next)));
     }
-    let removes = value.len() == 0;
+    let removes = value.is_empty();
     client_effects::plan_row(bytes, lengths, after, key, removes, Kind::Applied(next))
 }

@@ -1,42 +1,21 @@
 -- What the writers put into the output, and after which checks. Assumes nothing.
 use Prim.Native.Nat.{ℕ}
 use native.Mathlib.Omega.{arith}
-use mathlib.Core.Bool.{not}
-use mathlib.Core.List.{List, [], ◌∷◌}
-use mathlib.Core.Option.{none, some}
-use mathlib.Core.Path.{◌≡◌, refl}
-use borrow.Author.Tests.{eq-eqb, ne_eqb}
+use mathlib.Core.Path.{refl}
 use Rattle.answers.specs.declared.answer.Kind.TheVariants.{Wrote}
-use Rattle.answers.specs.declared.refusal.Refusal.TheVariants.{Phase}
-use Rattle.answers.specs.declared.refusal.Refusal.{Refusal}
 use Rattle.base.proofs.OctetLaws.{length-octets}
 use Rattle.base.specs.Bytes.{Bytes}
-use Rattle.base.specs.Checks.Check.{when}
-use Rattle.base.specs.Checks.{Check, first_refusal}
 use Rattle.client_calls.proofs.QueryLaws.{Puts}
 use Rattle.client_calls.specs.Calls.{write_icanhaz, write_kvset}
 use Rattle.client_calls.specs.Next.{accepted_next}
 use Rattle.client_calls.specs.Output.{accepted_bytes}
 use Rattle.client_calls.specs.Refusals.{call_checks}
-use Rattle.client_state.specs.Views.{is_waiting, subtree_of, view}
+use Rattle.client_state.specs.Views.{subtree_of, view}
 use Rattle.client_state.specs.declared.Client.{Client}
+use Rattle.client_writers.specs.Phases.{phase_check}
 use Rattle.messages.proofs.WriteLaws.{bytes-length, icanhaz-length}
 use Rattle.messages.specs.Fields.{bytes_of, kvset, icanhaz}
 use Rattle.ports.specs.Ports.{update_checks}
-
--- ---- the phase
--- ICANHAZ is for clients that wait
-abbrev pub phase_check : ℕ → List (Check Refusal)
-phase_check phase = when (not (is_waiting phase)) Phase ∷ []
-
-module _ (phase : ℕ) where
-  pub phase_stops : (phase ≡ 0 → ⊥) → first_refusal (phase_check phase) ≡ some Phase
-  unfolding first_refusal
-  phase_stops e = rw (ne_eqb phase 0 e)
-
-  pub phase_passes : phase ≡ 0 → first_refusal (phase_check phase) ≡ none
-  unfolding first_refusal
-  phase_passes e = rw (eq-eqb phase 0 e)
 
 -- ---- the messages
 module _ (c : Client) (room : ℕ) where

@@ -7,21 +7,13 @@ pub const VALUE_ROOM: usize = 256;
 pub fn is_uuid(s: &[u8]) -> bool
     ensures { result ≡ is_uuid s.now }
 {
-    let n = s.len();
-    match n {
-        0 | 16 => true,
-        _ => false,
-    }
+    matches!(s.len(), 0 | 16)
 }
 
 pub fn is_identity(s: &[u8]) -> bool
     ensures { result ≡ is_identity s.now }
 {
-    let n = s.len();
-    match n {
-        1..=255 => true,
-        _ => false,
-    }
+    matches!(s.len(), 1..=255)
 }
 
 pub fn is_value(s: &[u8]) -> bool

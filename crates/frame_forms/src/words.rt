@@ -1,4 +1,4 @@
-// The words of the protocol. A word is a whole frame, compared byte by byte.
+// The words of the protocol. A word is a whole frame, compared byte by byte. One test for each: its name says the word.
 ghost use Rattle.std.specs.Prelude.{◌≡◌};
 ghost use Rattle.base.specs.Bytes.{same};
 ghost use Rattle.frame_forms.specs.Words.{word_hugz, word_icanhaz, word_kthxbai};

@@ -1,8 +1,7 @@
 -- What stands at a place of a message.
 use Rattle.std.specs.Prelude.{ℕ, drop}
 use Rattle.base.specs.Bytes.{Bytes}
-use Rattle.frames.specs.Steps.{step_of}
-use Rattle.frames.specs.declared.step.Step.{Step}
+use Rattle.frames.specs.Steps.{Step, step_of}
 
 -- the frame at a place; its start counts from that place
 abbrev pub step_at : Bytes → ℕ → Step

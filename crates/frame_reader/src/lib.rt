@@ -5,8 +5,9 @@
 ghost use Rattle.std.specs.Prelude.{◌≡◌};
 ghost use Rattle.frame_reader.specs.Places.{step_at};
 
+use base::bytes;
 use frames::step;
-use frames::step::Step;
+use frames::step::Frame;
 
 // A message and a place in it.
 #[derive(Clone, Copy)]
@@ -15,40 +16,33 @@ pub struct Reader<'a> {
     pub at: usize,
 }
 
-// The frame at a place of some bytes; its start counts from that place. Broken at the end of the bytes or past it.
-fn frame_from(s: &[u8], at: usize) -> Step
-    ensures { result ≡ step_at s.now at }
-{
-    if at < s.len() {
-        return step::first_frame(&s[at..]);
+impl<'a> Reader<'a> {
+    // A reader at the front of a message.
+    pub fn new(src: &'a [u8]) -> Reader<'a>
+        ensures { (result.src ≡ src.entry) × (result.at ≡ 0) }
+    {
+        Reader { src, at: 0 }
     }
-    Step::Broken
-}
 
-// A reader at the front of a message.
-pub fn new<'a>(src: &'a [u8]) -> Reader<'a>
-    ensures { (result.src ≡ src.entry) × (result.at ≡ 0) }
-{
-    Reader { src, at: 0 }
-}
+    // The reader at another place of its message.
+    pub fn moved(self, at: usize) -> Reader<'a>
+        ensures { (result.src ≡ self.entry.src) × (result.at ≡ at) }
+    {
+        Reader { src: self.src, at }
+    }
 
-// The reader at another place of its message.
-pub fn moved<'a>(r: Reader<'a>, at: usize) -> Reader<'a>
-    ensures { (result.src ≡ r.entry.src) × (result.at ≡ at) }
-{
-    Reader { src: r.src, at }
-}
-
-// The frame at the reader's place. The next one stands behind its body.
-pub fn next<'a>(r: Reader<'a>) -> Step
-    ensures { result ≡ step_at r.entry.src.now r.entry.at }
-{
-    frame_from(r.src, r.at)
+    // The frame at the reader's place; its start counts from that place. None at the end of the message or past it. The
+    // next frame stands behind the body.
+    pub fn next(self) -> Option<Frame>
+        ensures { result ≡ step_at self.entry.src.now self.entry.at }
+    {
+        step::first_frame(bytes::behind(self.src, self.at))
+    }
 }
 
 // The frame at a place of a message, by a reader.
-pub fn frame_at(msg: &[u8], at: usize) -> Step
+pub fn frame_at(msg: &[u8], at: usize) -> Option<Frame>
     ensures { result ≡ step_at msg.now at }
 {
-    next(moved(new(msg), at))
+    Reader::new(msg).moved(at).next()
 }

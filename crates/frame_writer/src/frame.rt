@@ -12,20 +12,15 @@ const SHORT_MOST: usize = 255;
 pub fn frame_length(n: usize) -> usize
     ensures { result ≡ min (frame_length n) largest }
 {
-    if SHORT_MOST < n {
-        return output::add_lengths(n, 9);
-    }
-    n + 2
+    let head = if n <= SHORT_MOST { 2 } else { 9 };
+    output::add_lengths(n, head)
 }
 
+// The flag octet: its lowest bit promises another frame, and the next one says that the size takes eight octets.
 fn flag(more: bool, long: bool) -> u8
     ensures { result ≡ flag_of more long }
 {
-    if long {
-        if more { 3 } else { 2 }
-    } else {
-        if more { 1 } else { 0 }
-    }
+    u8::from(more) + 2 * u8::from(long)
 }
 
 // The flag octet and the size of a frame whose body is n bytes long.
@@ -36,18 +31,8 @@ fn put_header(out: &mut [u8], at: usize, more: bool, n: usize) -> usize
         let short = [flag(more, false), n as u8];
         return output::put_bytes(out, at, &short);
     }
-    let o = octets::octets_of(n as u64);
-    let long = [
-        flag(more, true),
-        o[0],
-        o[1],
-        o[2],
-        o[3],
-        o[4],
-        o[5],
-        o[6],
-        o[7],
-    ];
+    let mut long = [flag(more, true); 9];
+    long[1..].copy_from_slice(&octets::octets_of(n as u64));
     output::put_bytes(out, at, &long)
 }
 

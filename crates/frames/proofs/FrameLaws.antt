@@ -4,9 +4,9 @@ use native.Mathlib.Omega.{arith}
 use mathlib.Core.Bool.{Bool, true, false, cond}
 use mathlib.Core.List.{List, [], ◌∷◌, ◌++◌, append_assoc, append-nil}
 use mathlib.Core.Option.{some, map}
-use mathlib.Core.Path.{◌≡◌, refl, sym, ap, ◌∙◌}
+use mathlib.Core.Path.{◌≡◌, sym, ap, ◌∙◌}
 use lib.Dec.{leb}
-use lib.ListN.{length, get_or, take, drop, length-append}
+use lib.ListN.{length, take, drop, length-append}
 use lib.Seq.{take-append_seam, drop-append_seam, take_at, drop_at}
 use borrow.Author.Tests.{le-leb}
 use Rattle.base.proofs.OctetLaws.{length-octets, number-octets}
@@ -16,8 +16,7 @@ use Rattle.base.specs.Octets.{octets}
 use Rattle.base.specs.Output.{largest}
 use Rattle.frames.proofs.MessageLaws.{frames_step}
 use Rattle.frames.specs.Messages.{body_of, rest_of, frames_in, flag_of, frame_length, frame, encode}
-use Rattle.frames.specs.Steps.{short_of, long_of, flagged, step_of}
-use Rattle.frames.specs.declared.step.Step.TheVariants.{Frame}
+use Rattle.frames.specs.Steps.{found, short_of, long_of, flagged, step_of}
 
 -- ---- lengths, once over the length of the body
 pub frame-length : (more : Bool) (b : Bytes) → length (frame more b) ≡ frame_length (length b)
@@ -33,27 +32,19 @@ pub frame-room : {r : Bool} (n at k : ℕ) (more : Bool) (b : Bytes) → n < lar
     → r ≡ leb (at + length (frame more b)) n
 frame-room n at k more b h e f = f ∙ rw (e, frame-length more b) (clamped_room n at (frame_length (length b)) h)
 
--- eight octets, listed one by one
-abbrev pub listed : Bytes → Bytes
-listed o = get_or o 0 0 ∷ get_or o 1 0 ∷ get_or o 2 0 ∷ get_or o 3 0 ∷ get_or o 4 0 ∷ get_or o 5 0 ∷ get_or o 6 0 ∷ get_or o 7 0 ∷ []
-
-pub listed_octets : (o : Bytes) (n : ℕ) → o ≡ octets 8 n → o ≡ listed o
-unfolding octets
-listed_octets o n e = rw e refl
-
 -- ---- what is written is read back
-step_short : (more : Bool) (n : ℕ) (s : Bytes) → n ≤ length s → step_of (flag_of more false ∷ n ∷ s) ≡ Frame 2 n more
+step_short : (more : Bool) (n : ℕ) (s : Bytes) → n ≤ length s → step_of (flag_of more false ∷ n ∷ s) ≡ found 2 n more
 unfolding step_of flagged short_of
 step_short true n s h = rw (le-leb n (length s) h)
 step_short false n s h = rw (le-leb n (length s) h)
 
-long_is : (more : Bool) (n : ℕ) (s : Bytes) → n < 18446744073709551616 → n ≤ length s → long_of more (octets 8 n ++ s) ≡ Frame 9 n more
+long_is : (more : Bool) (n : ℕ) (s : Bytes) → n < 18446744073709551616 → n ≤ length s → long_of more (octets 8 n ++ s) ≡ found 9 n more
 unfolding long_of
 long_is more n s k h =
     rw
     (le-leb 8 (length (octets 8 n ++ s)) (omega (arith, length-append (octets 8 n) s, length-octets 8 n)), take_at (octets 8 n) s 8 (length-octets 8 n), drop_at (octets 8 n) s 8 (length-octets 8 n), number-octets 8 n k, le-leb n (length s) h)
 
-step_long : (more : Bool) (n : ℕ) (s : Bytes) → n < 18446744073709551616 → n ≤ length s → step_of (flag_of more true ∷ octets 8 n ++ s) ≡ Frame 9 n more
+step_long : (more : Bool) (n : ℕ) (s : Bytes) → n < 18446744073709551616 → n ≤ length s → step_of (flag_of more true ∷ octets 8 n ++ s) ≡ found 9 n more
 unfolding step_of flagged
 step_long true n s k h = long_is true n s k h
 step_long false n s k h = long_is false n s k h
@@ -61,7 +52,7 @@ step_long false n s k h = long_is false n s k h
 -- some bytes begin with a frame of the body b, and rest stands behind it
 pub record Begins (s : Bytes) (more : Bool) (b rest : Bytes) : Type 0 where
   pub start : ℕ
-  pub step : step_of s ≡ Frame start (length b) more
+  pub step : step_of s ≡ found start (length b) more
   pub body : take (length b) (drop start s) ≡ b
   pub after : drop (length b) (drop start s) ≡ rest
 

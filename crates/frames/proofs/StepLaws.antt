@@ -1,33 +1,28 @@
 -- Laws of the frame that some bytes begin with. Assumes nothing.
-use Prim.Native.Nat.{ℕ, zero, suc, ◌+◌, ◌-◌, ◌≤◌, ◌<◌}
+use Prim.Native.Nat.{ℕ, zero, suc, ◌+◌, ◌≤◌, ◌<◌}
 use native.Mathlib.Omega.{arith}
-use mathlib.Core.Bool.{Bool, true, false, cond}
+use mathlib.Core.Bool.{Bool, true, false}
 use mathlib.Core.List.{[], ◌∷◌}
-use mathlib.Core.Path.{◌≡◌, refl, sym, ap, ◌∙◌, subst}
+use mathlib.Core.Path.{◌≡◌, refl, sym, ap, subst}
 use lib.Dec.{leb}
-use lib.ListN.{length, get_or, take, drop, length-drop}
-use lib.Seq.{length-take-le}
+use lib.ListN.{length, take, drop, length-drop}
 use borrow.Author.Tests.{leb-true, le-leb, lt-leb, eq-eqb}
-use Rattle.base.proofs.CutLaws.{tail_part}
+use Rattle.std.specs.Prelude.{Some, None}
+use Rattle.std.proofs.lemmas.Bool.{cond_both}
+use Rattle.std.proofs.lemmas.List.{nil_from_length}
+use Rattle.std.specs.List.{IsSplitAt}
 use Rattle.base.specs.Bytes.{Bytes}
 use Rattle.base.specs.Octets.{number, eight_of}
-use Rattle.base.specs.declared.octets.Eight.TheVariants.{Number, Other}
-use Rattle.frames.specs.Steps.{frame_within, short_of, long_of, flagged, step_of}
-use Rattle.frames.specs.declared.step.Step.TheVariants.{Frame, Broken}
-use Rattle.frames.specs.declared.step.Step.{Step}
-
--- what holds of both answers of a choice, each under its test, holds of the choice
-cond_if : {A : Type 0} (P : A → Type 0) (t : Bool) (a b : A) → (t ≡ true → P a) → (t ≡ false → P b) → P (cond t a b)
-cond_if P true a b f g = f refl
-cond_if P false a b f g = g refl
+use Rattle.frames.specs.declared.step.Frame.{Frame}
+use Rattle.frames.specs.Steps.{Step, found, frame_within, short_of, long_of, flagged, step_of}
 
 -- ---- the body that a frame names lies in the bytes, behind a head of two bytes or more
 abbrev pub Sound : ℕ → Step → Type 0
-Sound n (Frame start len more) = (2 ≤ start) × (start + len ≤ n)
-Sound n Broken = Unit {0}
+Sound n (Some f) = (2 ≤ f.start) × (f.start + f.len ≤ n)
+Sound n None = Unit {0}
 
 within_sound : (n start len left : ℕ) (more : Bool) → 2 ≤ start → start + left ≤ n → Sound n (frame_within start len left more)
-within_sound n start len left more h k = cond_if (Sound n) (leb len left) _ _ (λ e. omega (arith, leb-true len left e)) (λ e. tt)
+within_sound n start len left more h k = cond_both (leb len left) _ _ (Sound n) (λ e. omega (arith, leb-true len left e)) (λ e. tt)
 
 short_sound : (more : Bool) (s : Bytes) → Sound (suc (length s)) (short_of more s)
 unfolding short_of
@@ -37,7 +32,7 @@ short_sound more (size ∷ s) = within_sound (suc (suc (length s))) 2 size (leng
 long_sound : (more : Bool) (s : Bytes) → Sound (suc (length s)) (long_of more s)
 unfolding long_of
 long_sound more s =
-    cond_if (Sound (suc (length s))) (leb 8 (length s)) _ _
+    cond_both (leb 8 (length s)) _ _ (Sound (suc (length s)))
     (λ e. within_sound (suc (length s)) 9 (number (take 8 s)) (length (drop 8 s)) more (omega arith)
     (omega (arith, leb-true 8 (length s) e, length-drop 8 s)))
     (λ e. tt)
@@ -55,21 +50,25 @@ unfolding step_of
 step_sound [] = tt
 step_sound (flag ∷ s) = flagged_sound flag s
 
-pub step_known : (s : Bytes) (start len : ℕ) (more : Bool) → Frame start len more ≡ step_of s → (2 ≤ start) × (start + len ≤ length s)
+pub step_known : (s : Bytes) (start len : ℕ) (more : Bool) → found start len more ≡ step_of s → (2 ≤ start) × (start + len ≤ length s)
 step_known s start len more e = subst (Sound (length s)) (sym e) (step_sound s)
 
+-- one frame has one start, one length and one flag
+pub same_frame : (a n start len : ℕ) (more m : Bool) → found a n more ≡ found start len m → (a ≡ start) × (n ≡ len) × (more ≡ m)
+same_frame a n start len more m e =
+    let r : ◌≡◌ {A = Frame} (record { start = a; len = n; more = more }) (record { start = start; len = len; more = m }) = cc in
+    (ap (λ (f : Frame). f.start) r, ap (λ (f : Frame). f.len) r, ap (λ (f : Frame). f.more) r)
+
 -- ---- the step, as the code reads it
-pub step_none : (s : Bytes) → length s ≡ 0 → step_of s ≡ Broken
+pub step_none : (s : Bytes) → length s ≡ 0 → None ≡ step_of s
 unfolding step_of
-step_none [] h = refl
-step_none (flag ∷ s) h = absurd (omega arith)
+step_none s h = rw (nil_from_length s h)
 
-pub step_flag : (s : Bytes) (flag : ℕ) → (length s ≡ 0 → ⊥) → get_or s 0 0 ≡ flag → step_of s ≡ flagged flag (take (length s - 1) (drop 1 s))
+pub step_flag : (s rest : Bytes) (flag n : ℕ) → s ≡ flag ∷ rest → flag ≡ n → flagged n rest ≡ step_of s
 unfolding step_of
-step_flag [] flag h e = absurd (h refl)
-step_flag (f ∷ s) flag h e = rw e (ap (flagged flag) (sym (tail_part (f ∷ s) 1)))
+step_flag s rest flag n e f = rw (e, f)
 
-pub flagged-refused : (flag : ℕ) (s : Bytes) → 4 ≤ flag → flagged flag s ≡ Broken
+pub flagged-refused : (flag : ℕ) (s : Bytes) → 4 ≤ flag → None ≡ flagged flag s
 unfolding flagged
 flagged-refused zero s h = absurd (omega arith)
 flagged-refused (suc zero) s h = absurd (omega arith)
@@ -77,41 +76,28 @@ flagged-refused (suc (suc zero)) s h = absurd (omega arith)
 flagged-refused (suc (suc (suc zero))) s h = absurd (omega arith)
 flagged-refused (suc (suc (suc (suc n)))) s h = refl
 
-module _ (more : Bool) (s : Bytes) where
-  pub short_none : length s < 1 → short_of more s ≡ Broken
+module _ (more : Bool) where
+  pub short_none : (s : Bytes) → length s ≡ 0 → None ≡ short_of more s
   unfolding short_of
-  short_none h = go s h
-    where
-      go : (t : Bytes) → length t < 1 → short_of more t ≡ Broken
-      go [] h = refl
-      go (x ∷ t) h = absurd (omega arith)
+  short_none s h = rw (nil_from_length s h)
 
-  pub short_some : 1 ≤ length s → short_of more s ≡ frame_within 2 (get_or s 0 0) (length s - 1) more
-  unfolding short_of
-  short_some h = go s h
-    where
-      go : (t : Bytes) → 1 ≤ length t → short_of more t ≡ frame_within 2 (get_or t 0 0) (length t - 1) more
-      go [] h = absurd (omega arith)
-      go (x ∷ t) h = ap (λ (n : ℕ). frame_within 2 x n more) (omega arith)
+  module _ (s : Bytes) where
+    pub long_none : length s < 8 → None ≡ long_of more s
+    unfolding long_of
+    long_none h = rw (lt-leb 8 (length s) h)
 
-  pub long_none : length s < 8 → long_of more s ≡ Broken
-  unfolding long_of
-  long_none h = rw (lt-leb 8 (length s) h)
+    -- the eight octets of a size are a number
+    module _ (size rest : Bytes) (h : IsSplitAt s 8 size rest) where
+      size_known : eight_of size ≡ Some (number size)
+      unfolding eight_of
+      size_known = rw (eq-eqb (length size) 8 h.3)
 
-  pub long_some : 8 ≤ length s → long_of more s ≡ frame_within 9 (number (take 8 s)) (length s - 8) more
-  unfolding long_of
-  long_some h = rw (le-leb 8 (length s) h, length-drop 8 s)
+      pub long_never : None ≡ eight_of size → None ≡ long_of more s
+      long_never e = let k = size_known in cc
 
--- the eight octets of a size are a number
-size_known : (s : Bytes) → 8 ≤ length s → eight_of (take 8 s) ≡ Number (number (take 8 s))
-unfolding eight_of
-size_known s h = rw (eq-eqb (length (take 8 s)) 8 (length-take-le 8 s h))
-
-pub size_never : (s : Bytes) → 8 ≤ length s → Other ≡ eight_of (take 8 s) → ⊥
-size_never s h e = let k = size_known s h in let z : ◌≡◌ {A = ℕ} 0 1 = cc in omega arith
-
-pub long_read : (more : Bool) (s : Bytes) (n : ℕ) → 8 ≤ length s → Number n ≡ eight_of (take 8 s) → long_of more s ≡ frame_within 9 n (length s - 8) more
-long_read more s n h e =
-    let k = size_known s h in
-    let f : number (take 8 s) ≡ n = cc in
-    long_some more s h ∙ ap (λ (m : ℕ). frame_within 9 m (length s - 8) more) f
+      pub long_read : (n : ℕ) → Some n ≡ eight_of size → frame_within 9 n (length rest) more ≡ long_of more s
+      unfolding long_of
+      long_read n e =
+          let k = size_known in
+          let f : n ≡ number size = cc in
+          rw (f, h.1, h.2, le-leb 8 (length s) h.0)

@@ -1,23 +1,21 @@
 -- A message as the list of its frames' bodies. Each frame but the last promises another, and nothing stands behind the
 -- last.
-use Rattle.std.specs.Prelude.{ℕ, zero, suc, ◌+◌, Bool, true, false, cond, List, [], ◌∷◌, ◌++◌, leb, length, get_or, take, drop}
+use Rattle.std.specs.Prelude.{ℕ, zero, suc, ◌+◌, Bool, true, false, cond, List, [], ◌∷◌, ◌++◌, leb, length, get_or, take, drop, Some, None}
 use Rattle.std.proofs.Math.Option
 use Rattle.std.proofs.Math.Option.{Option, none, some, map}
 use Rattle.base.specs.Bytes.{Bytes}
 use Rattle.base.specs.Octets.{octets}
-use Rattle.frames.specs.Steps.{step_of}
-use Rattle.frames.specs.declared.step.Step.{Step}
-use Rattle.frames.specs.declared.step.Step.TheVariants.{Frame, Broken}
+use Rattle.frames.specs.Steps.{Step, step_of}
 
 -- ---- reading
 -- the body that a step names, and the bytes behind it
 abbrev pub body_of : Bytes → Step → Bytes
-body_of s Broken = []
-body_of s (Frame start len more) = take len (drop start s)
+body_of s None = []
+body_of s (Some f) = take f.len (drop f.start s)
 
 abbrev pub rest_of : Bytes → Step → Bytes
-rest_of s Broken = []
-rest_of s (Frame start len more) = drop len (drop start s)
+rest_of s None = []
+rest_of s (Some f) = drop f.len (drop f.start s)
 
 -- the last frame ends the message
 abbrev pub last : Bytes → Bytes → Option (List Bytes)
@@ -26,9 +24,11 @@ last body (_ ∷ _) = none
 
 -- the frames of a message that begins with a step, what is behind it being read by rest
 abbrev pub through : (Bytes → Option (List Bytes)) → Bytes → Step → Option (List Bytes)
-through rest s Broken = none
-through rest s (Frame start len true) = map (λ (bodies : List Bytes). take len (drop start s) ∷ bodies) (rest (drop len (drop start s)))
-through rest s (Frame start len false) = last (take len (drop start s)) (drop len (drop start s))
+through rest s None = none
+through rest s (Some f) =
+    cond f.more
+    (map (λ (bodies : List Bytes). take f.len (drop f.start s) ∷ bodies) (rest (drop f.len (drop f.start s))))
+    (last (take f.len (drop f.start s)) (drop f.len (drop f.start s)))
 
 -- at most n frames
 unfoldable pub read_up_to : ℕ → Bytes → Option (List Bytes)

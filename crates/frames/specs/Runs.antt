@@ -1,17 +1,15 @@
 -- Messages one behind another: each ends with its first frame that promises no other.
-use Rattle.std.specs.Prelude.{ℕ, zero, suc, ◌+◌, true, false, List, [], ◌∷◌, ◌++◌, length, take, drop}
+use Rattle.std.specs.Prelude.{ℕ, zero, suc, ◌+◌, cond, List, [], ◌∷◌, ◌++◌, length, take, drop, Some, None}
 use Rattle.std.proofs.Math.Option.{Option, none, some, map, get_or}
 use Rattle.base.specs.Bytes.{Bytes}
-use Rattle.frames.specs.Steps.{step_of}
-use Rattle.frames.specs.declared.step.Step.{Step}
-use Rattle.frames.specs.declared.step.Step.TheVariants.{Frame, Broken}
+use Rattle.frames.specs.Steps.{Step, step_of}
 
 -- ---- the first message
 -- where a message ends that begins with a step, the end of what is behind it being found by rest
 abbrev pub end_through : (Bytes → Option ℕ) → Bytes → Step → Option ℕ
-end_through rest s Broken = none
-end_through rest s (Frame start len true) = map (λ (n : ℕ). start + len + n) (rest (drop len (drop start s)))
-end_through rest s (Frame start len false) = some (start + len)
+end_through rest s None = none
+end_through rest s (Some f) =
+    cond f.more (map (λ (n : ℕ). f.start + f.len + n) (rest (drop f.len (drop f.start s)))) (some (f.start + f.len))
 
 -- at most n frames
 unfoldable pub end_up_to : ℕ → Bytes → Option ℕ

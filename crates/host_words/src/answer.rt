@@ -10,15 +10,14 @@ const WORDS: usize = 4;
 
 pub type AnswerWords = [u64; WORDS];
 
+// An answer is put and never read back, so it is no `Words`.
 pub fn put_answer(words: &mut AnswerWords, a: Answer)
     ensures { words.new ≡ answer_words a }
 {
-    let kind = a.kind;
-    let number = answer::sequence_in(kind);
     *words = [
-        answer::kind_number(kind),
-        answer::refusal_in(kind),
-        number.0,
+        answer::kind_number(a.kind),
+        answer::refusal_in(a.kind),
+        answer::sequence_in(a.kind).0,
         a.written as u64,
     ];
 }

@@ -9,6 +9,8 @@ use mathlib.Core.Path.{◌≡◌, refl}
 use lib.Dec.{leb}
 use lib.ListN.{length}
 use borrow.Author.Tests.{leb-true, leb-false, eqb-false, not-false}
+use Rattle.std.specs.declared.cmp.Ordering.TheVariants.{Less, Equal, Greater}
+use Rattle.std.specs.declared.cmp.Ordering.{Ordering}
 use Rattle.answers.specs.Refusals.{if_accepted}
 use Rattle.answers.specs.declared.refusal.Refusal.TheVariants.{BadKey, BadSequence}
 use Rattle.answers.specs.declared.refusal.Refusal.{Refusal}
@@ -21,8 +23,6 @@ use Rattle.frames.specs.Messages.{frame_at}
 use Rattle.messages.specs.Fields.{fields_of}
 use Rattle.keys.specs.Keys.{is_key}
 use Rattle.numbers.specs.Sequences.{max_sequence, is_sequence}
-use Rattle.key_order.specs.declared.Order.TheVariants.{Less, Equal, Greater}
-use Rattle.key_order.specs.declared.Order.{Order}
 use Rattle.key_order.specs.Order.{order_of}
 use Rattle.ports.specs.Ports.{framed, payload_checks, kvset_checks, kvset_port, tick_checks}
 use Rattle.rows.proofs.RowLaws.{sorted_set, sorted_remove, set_remove, length-set, length-remove}
@@ -50,7 +50,7 @@ module _ {A : Type 0} (P : Bytes × A → Type 0) where
   all_set k a [] p h = (p, tt)
   all_set k a (r ∷ l) p h = go (order_of k r.0) (all_set k a l p h.1)
     where
-      go : (o : Order) → All P (set_row k a l) → All P (place o (k, a) r l (set_row k a l))
+      go : (o : Ordering) → All P (set_row k a l) → All P (place o (k, a) r l (set_row k a l))
       go Less i = (p, h)
       go Equal i = (p, h.1)
       go Greater i = (h.0, i)
@@ -60,7 +60,7 @@ module _ {A : Type 0} (P : Bytes × A → Type 0) where
   all_remove k [] h = tt
   all_remove k (r ∷ l) h = go (order_of k r.0) (all_remove k l h.1)
     where
-      go : (o : Order) → All P (remove_row k l) → All P (part o r l (remove_row k l))
+      go : (o : Ordering) → All P (remove_row k l) → All P (part o r l (remove_row k l))
       go Less i = h
       go Equal i = h.1
       go Greater i = (h.0, i)

@@ -7,6 +7,8 @@ use mathlib.Core.Option.{none}
 use mathlib.Core.Path.{◌≡◌, refl, sym, ap, subst, ◌∙◌}
 use lib.ListN.{length}
 use borrow.Author.Tests.{le-leb, lt-leb}
+use Rattle.std.specs.declared.cmp.Ordering.TheVariants.{Less, Equal, Greater}
+use Rattle.std.specs.declared.cmp.Ordering.{Ordering}
 use Rattle.base.proofs.CheckLaws.{pass_all}
 use Rattle.base.specs.Bytes.{Bytes, same}
 use Rattle.base.specs.Checks.{first_refusal}
@@ -24,8 +26,6 @@ use Rattle.numbers.specs.Sequences.{max_sequence}
 use Rattle.numbers.specs.Ticks.{max_tick}
 use Rattle.key_order.specs.Order.{order_of}
 use Rattle.frame_forms.specs.Words.{word_kthxbai}
-use Rattle.key_order.specs.declared.Order.TheVariants.{Less, Equal, Greater}
-use Rattle.key_order.specs.declared.Order.{Order}
 use Rattle.ports.specs.Ports.{snapshot_port}
 use Rattle.round_trip.proofs.ArrivalLaws.{not_kthxbai, kvsync-arrives, kthxbai-arrives}
 use Rattle.round_trip.proofs.RowsLaws.{Proper}
@@ -48,7 +48,7 @@ unfolding set_row
 length-put k a [] = omega arith
 length-put k a (r ∷ l) = go (order_of k r.0) (length-put k a l)
   where
-    go : (o : Order) → length (set_row k a l) ≤ suc (length l) → length (place o (k, a) r l (set_row k a l)) ≤ suc (length (r ∷ l))
+    go : (o : Ordering) → length (set_row k a l) ≤ suc (length l) → length (place o (k, a) r l (set_row k a l)) ≤ suc (length (r ∷ l))
     go Less i = omega arith
     go Equal i = omega arith
     go Greater i = omega arith

@@ -26,9 +26,8 @@ pub fn serve<'a>(
     let fresh = server::start(number, began);
     let set = server::kvset(fresh.state, msg, at, update);
     let timed = server::tick(set.state, at, expiry);
-    let state = timed.state;
-    let answer = server::icanhaz(state, request, snapshot);
-    Reply { state, answer }
+    let answer = server::icanhaz(timed.state, request, snapshot);
+    Reply { answer, ..timed }
 }
 
 // A client: the request, a message of the snapshot, one that was published, an update, whether the server is gone, and

@@ -1,10 +1,10 @@
 -- The order of keys: by bytes, a proper prefix first.
 use Rattle.std.specs.Prelude.{cond, [], ◌∷◌, ltb}
+use Rattle.std.specs.declared.cmp.Ordering.TheVariants.{Less, Equal, Greater}
+use Rattle.std.specs.declared.cmp.Ordering.{Ordering}
 use Rattle.base.specs.Bytes.{Bytes}
-use Rattle.key_order.specs.declared.Order.TheVariants.{Less, Equal, Greater}
-use Rattle.key_order.specs.declared.Order.{Order}
 
-unfoldable pub order_of : Bytes → Bytes → Order
+unfoldable pub order_of : Bytes → Bytes → Ordering
 order_of [] [] = Equal
 order_of [] (_ ∷ _) = Less
 order_of (_ ∷ _) [] = Greater

@@ -158,13 +158,13 @@ key-passed (a ∷ s) h k e n =
 
 -- what the pass keeps: whether anything was found, and the bytes that are left
 module _ (s : Bytes) (i a : ℕ) (x good : Bool) (h : x ≡ (good && clean a (drop i s))) where
-  pub clean_turn : i < length s → x ≡ ((good && not (eqb (get_or s i 0) 0) && (not (eqb a 47) || not (eqb (get_or s i 0) 47))) && clean (get_or s (i + 1 - 1) 0) (drop (i + 1) s))
+  pub clean_turn : i < length s → x ≡ ((good && (not (eqb (get_or s i 0) 0) && (not (eqb a 47) || not (eqb (get_or s i 0) 47)))) && clean (get_or s (i + 1 - 1) 0) (drop (i + 1) s))
   unfolding clean
   clean_turn k =
       let e : i + 1 - 1 ≡ i = omega arith in
       h ∙ rw (e, drop-cons s i 0 k, add-one) (go good (not (eqb (get_or s i 0) 0)) (eqb a 47) (eqb (get_or s i 0) 47) (clean (get_or s i 0) (drop (suc i) s)))
     where
-      go : (g z f l r : Bool) → (g && (z && (not (f && l) && r))) ≡ ((g && z && (not f || not l)) && r)
+      go : (g z f l r : Bool) → (g && (z && (not (f && l) && r))) ≡ ((g && (z && (not f || not l))) && r)
       go false z f l r = refl
       go true false f l r = refl
       go true true false l r = refl

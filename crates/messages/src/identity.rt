@@ -3,8 +3,8 @@ ghost use Rattle.std.specs.Prelude.{◌≡◌};
 ghost use Rattle.base.specs.Output.{Written};
 ghost use Rattle.messages.specs.Fields.{identity_frame, without_identity};
 
+use base::bytes;
 use frame_writer::frame;
-use frames::step::Step;
 
 // Writes an identity frame, behind which a message is to follow.
 pub fn write_identity(out: &mut [u8], at: usize, identity: &[u8]) -> usize
@@ -17,13 +17,8 @@ pub fn write_identity(out: &mut [u8], at: usize, identity: &[u8]) -> usize
 pub fn without_identity(msg: &[u8]) -> &[u8]
     ensures { result.now ≡ without_identity msg.now }
 {
-    let Step::Frame {
-        start,
-        len,
-        more: _,
-    } = frame_reader::frame_at(msg, 0)
-    else {
-        return &msg[..0];
-    };
-    &msg[start + len..]
+    match frame_reader::frame_at(msg, 0) {
+        Some(frame) => bytes::behind(msg, frame.start + frame.len),
+        None => &[],
+    }
 }

@@ -4,7 +4,7 @@ ghost use Rattle.base.specs.Output.{largest};
 ghost use Rattle.numbers.specs.Ticks.{is_time};
 
 #[repr(C)]
-#[derive(Clone, Copy)]
+#[derive(Clone, Copy, PartialEq, Eq, PartialOrd, Ord)]
 pub struct Tick(pub u64);
 
 pub const MAX_TICK: u64 = 4611686018427387904;
@@ -20,26 +20,19 @@ pub fn is_time(t: Tick) -> bool
 pub fn is_before(t: Tick, other: Tick) -> bool
     ensures { result ≡ ltb t.0 other.0 }
 {
-    t.0 < other.0
+    t < other
 }
 
 // How many milliseconds have passed from a tick to another; none if the other is not later.
 pub fn elapsed(from: Tick, to: Tick) -> u64
     ensures { result ≡ to.0 - from.0 }
 {
-    if to.0 < from.0 {
-        return 0;
-    }
-    to.0 - from.0
+    to.0.saturating_sub(from.0)
 }
 
 // The tick so many milliseconds after another, or the largest number if that is larger.
 pub fn later(t: Tick, ms: u64) -> Tick
     ensures { result.0 ≡ min (t.0 + ms) largest }
 {
-    let left = 18446744073709551615 - t.0;
-    if left < ms {
-        return Tick(18446744073709551615);
-    }
-    Tick(t.0 + ms)
+    Tick(t.0.saturating_add(ms))
 }

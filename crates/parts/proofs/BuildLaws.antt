@@ -99,7 +99,7 @@ module _ (ps : Log Part) (p : Part) (h : complete (ps ▷ p) ≡ true) (l : Boun
   final_surplus x t = final_read (x ∷ t) ∙ rw (last_surplus (frame false b ++ (x ∷ t)) b x t (begins_last (x ∷ t)))
 
 not_complete : {C : Type 0} → complete empty ≡ true → C
-not_complete h = absurd (let z : ◌≡◌ {A = ℕ} 0 1 = cc in omega arith)
+not_complete h = cc
 
 pub whole_read : (ps : Log Part) → complete ps ≡ true → Bounded ps → frames_in (as_frames ps) ≡ some (bodies ps)
 whole_read empty h l = not_complete h
@@ -113,7 +113,7 @@ surplus_read (ps ▷ p) (x ∷ t) h l n = final_surplus ps p h l x t
 -- parts of which one before the last promises no other are no message, whatever comes after them
 spoilt_read : (ps : Log Part) (s : Bytes) → promising ps ≡ false → complete ps ≡ false → Bounded ps → frames_in (as_frames ps ++ s) ≡ none
 unfolding promising as_frames
-spoilt_read empty s h k l = absurd (let z : ◌≡◌ {A = ℕ} 0 1 = cc in omega arith)
+spoilt_read empty s h k l = cc
 spoilt_read (ps ▷ p) s h k l =
     ap frames_in (append_assoc (as_frames ps) f s) ∙ go (complete ps) refl (λ c. spoilt_read ps (f ++ s) (neither (promising ps) p.more h k) c l.0)
   where
@@ -214,11 +214,11 @@ reads_back room ps d b most r = go b (reached room ps d b r).state
     no false h e = refl
 
     none_of : (b : Built) → holdable room ps ≡ false → frames_in (held_in d b) ≡ none → ReadsBack room ps d b
-    none_of b h e = record { frames = rw h e; bytes = λ t. absurd (let z : ◌≡◌ {A = ℕ} 0 1 = cc in omega arith) }
+    none_of b h e = record { frames = rw h e; bytes = λ t. cc }
 
     go : (b : Built) → State room ps d b → ReadsBack room ps d b
     go (Open k) (unfinished h l e) =
-        none_of _ (no (complete ps) (λ c. absurd (let z : ◌≡◌ {A = ℕ} 0 1 = cc (complete_closed ps c) in omega arith)) refl) (rw e (open_read ps h (bounded ps (omega arith))))
+        none_of _ (no (complete ps) (λ c. cc (complete_closed ps c)) refl) (rw e (open_read ps h (bounded ps (omega arith))))
     go (Whole k) (finished h l e) =
         record { frames = rw (h, le-leb (length (as_frames ps)) room l, e) (whole_read ps h (bounded ps (omega arith))); bytes = λ t. e }
     go Void (lost (inl l)) = none_of Void (rw (lt-leb (length (as_frames ps)) room l) (and-false (complete ps))) frames_nil

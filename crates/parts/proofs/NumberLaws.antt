@@ -1,5 +1,5 @@
 -- Messages and frames told by numbers. Assumes nothing.
-use Prim.Native.Nat.{ℕ, zero, suc, ◌+◌, min, ◌≤◌}
+use Prim.Native.Nat.{ℕ, ◌+◌, min, ◌≤◌}
 use native.Mathlib.Omega.{arith}
 use mathlib.Core.Bool.{Bool, true, false, cond, not}
 use mathlib.Core.List.{List, [], ◌∷◌}
@@ -7,22 +7,18 @@ use mathlib.Core.Path.{◌≡◌, refl, sym, ap, ◌∙◌}
 use lib.Dec.{leb, eqb}
 use lib.ListN.{length, get_or}
 use borrow.Author.Tests.{leb-true, leb-false}
+use Rattle.std.specs.Prelude.{None}
 use Rattle.base.specs.Bytes.{Bytes}
 use Rattle.base.specs.Output.{largest}
+use Rattle.frames.specs.Steps.{found}
 use Rattle.parts.proofs.WalkLaws.{past_end}
 use Rattle.parts.specs.Build.{part_of, Put}
-use Rattle.parts.specs.Numbers.{staged, built_of, numbers_of, Added, after, is_body, body_or, FrameGiven}
+use Rattle.parts.specs.Numbers.{built_of, numbers_of, Added, after, is_body, body_or, FrameGiven}
 use Rattle.parts.specs.Walk.{taken_at}
 use Rattle.parts.specs.declared.build.Built.TheVariants.{Open, Whole, Void}
 use Rattle.parts.specs.declared.build.Built.{Built}
-use Rattle.parts.specs.declared.walk.Taken.TheVariants.{Body, End}
 
 -- ---- a message
-pub void_stage : (k n : ℕ) → (k ≡ 0 → ⊥) → (k ≡ 1 → ⊥) → Void ≡ staged k n
-void_stage zero n a b = absurd (a refl)
-void_stage (suc zero) n a b = absurd (b refl)
-void_stage (suc (suc k)) n a b = refl
-
 built_back : (b : Built) → built_of (numbers_of b) ≡ b
 built_back (Open n) = refl
 built_back (Whole n) = refl
@@ -46,12 +42,12 @@ module _ (s : Bytes) (f : List ℕ) (at : ℕ) (long : length s ≤ largest) (e 
           let l = leb-false (get_or f 0 0 + get_or f 1 0) largest t in
           past_end s at inside (omega arith) ∙ sym (past_end s (get_or f 0 0 + get_or f 1 0) inside (omega arith))
 
-  pub none_given : End ≡ taken_at s at (not (eqb (get_or f 2 0) 0)) → FrameGiven s f 0 f
+  pub none_given : None ≡ taken_at s at (not (eqb (get_or f 2 0) 0)) → FrameGiven s f 0 f
   none_given h =
-      let k : End ≡ after s f = h ∙ sum_told (not (eqb (get_or f 2 0) 0)) in
+      let k : None ≡ after s f = h ∙ sum_told (not (eqb (get_or f 2 0) 0)) in
       record { told = ap is_body k; frame = ap (body_or f) k }
 
-  pub one_given : (start len : ℕ) (more : Bool) (n : ℕ) → Body start len more ≡ taken_at s at (not (eqb (get_or f 2 0) 0)) → n ≡ cond more 1 0 → FrameGiven s f 1 (start ∷ len ∷ n ∷ [])
+  pub one_given : (start len : ℕ) (more : Bool) (n : ℕ) → found start len more ≡ taken_at s at (not (eqb (get_or f 2 0) 0)) → n ≡ cond more 1 0 → FrameGiven s f 1 (start ∷ len ∷ n ∷ [])
   one_given start len more n h m =
-      let k : Body start len more ≡ after s f = h ∙ sum_told (not (eqb (get_or f 2 0) 0)) in
+      let k : found start len more ≡ after s f = h ∙ sum_told (not (eqb (get_or f 2 0) 0)) in
       record { told = ap is_body k; frame = ap (λ (x : ℕ). start ∷ len ∷ x ∷ []) m ∙ ap (body_or f) k }

@@ -5,23 +5,19 @@ use mathlib.Core.Bool.{Bool, true, false, cond, not, ◌||◌}
 use mathlib.Core.List.{List, [], ◌∷◌, ◌++◌}
 use mathlib.Core.Option.{Option, none, some, map, get_or}
 use mathlib.Core.Path.{◌≡◌, refl, sym, ap, ◌∙◌}
-use lib.Dec.{ltb}
 use lib.ListN.{length, take, drop, length-drop, drop_of_length-le}
 use lib.Seq.{drop-drop}
-use borrow.Author.Tests.{not-true, not-false, lt-ltb}
+use Rattle.std.specs.Prelude.{Some, None}
 use Rattle.base.specs.Bytes.{Bytes, is_nil}
 use Rattle.frames.proofs.FrameGrammar.{some_frame}
 use Rattle.frames.proofs.MessageLaws.{none_some}
 use Rattle.frames.proofs.RunLaws.{end_step, end_least, cut_last, cut-more, cut_sound, cut_step}
-use Rattle.frames.proofs.StepLaws.{step_known}
+use Rattle.frames.proofs.StepLaws.{same_frame, step_known}
 use Rattle.frames.specs.Messages.{frames_in}
 use Rattle.frames.specs.Runs.{end_through, end_in, message_in, messages_in}
-use Rattle.frames.specs.Steps.{step_of}
-use Rattle.frames.specs.declared.step.Step.TheVariants.{Frame, Broken}
-use Rattle.frames.specs.declared.step.Step.{Step}
+use Rattle.frames.specs.Steps.{Step, found, step_of}
 use Rattle.parts.specs.Build.{Part, part_of}
 use Rattle.parts.specs.Walk.{placed, begins_message, may_begin, taken_at, taken_on, taken, as_parts, as_parts_all, TakesApart}
-use Rattle.parts.specs.declared.walk.Taken.TheVariants.{Body, End}
 
 -- ---- a walk ends: each part takes two bytes or more
 few : (n : ℕ) (s : Bytes) (at : ℕ) (inside : Bool) → length (taken n s at inside) ≤ length s - at
@@ -29,11 +25,11 @@ unfolding taken taken_at
 few zero s at inside = omega arith
 few (suc n) s at inside = go (λ k more. few n s k more) (may_begin s at inside) (step_of (drop at s)) refl
   where
-    go : ((k : ℕ) (more : Bool) → length (taken n s k more) ≤ length s - k) → (t : Bool) (x : Step) → step_of (drop at s) ≡ x → length (taken_on (taken n s) s (cond t (placed at x) End)) ≤ length s - at
+    go : ((k : ℕ) (more : Bool) → length (taken n s k more) ≤ length s - k) → (t : Bool) (x : Step) → step_of (drop at s) ≡ x → length (taken_on (taken n s) s (cond t (placed at x) None)) ≤ length s - at
     go ih false x e = omega arith
-    go ih true Broken e = omega arith
-    go ih true (Frame start len more) e =
-        omega (arith, ih (at + start + len) more, step_known (drop at s) start len more (sym e), length-drop at s)
+    go ih true None e = omega arith
+    go ih true (Some f) e =
+        omega (arith, ih (at + f.start + f.len) f.more, step_known (drop at s) f.start f.len f.more (sym e), length-drop at s)
 
 -- ---- where a message begins
 -- the end of a message that a step begins
@@ -43,7 +39,7 @@ ends_by s k x e f = ap (end_through end_in s) (sym f) ∙ sym (end_step s) ∙ e
 -- no bytes begin no message
 end_nil : {C : Type 0} (k : ℕ) → end_in [] ≡ some k → C
 unfolding step_of
-end_nil k e = none_some k (ends_by [] k Broken e refl)
+end_nil k e = none_some k (ends_by [] k None e refl)
 
 begins : (s : Bytes) (at k : ℕ) → end_in (drop at s) ≡ some k → begins_message s at ≡ true
 unfolding message_in
@@ -73,13 +69,13 @@ abbrev first : ℕ → Bytes → List Part
 first k t = as_parts (get_or (frames_in (take k t)) []) ++ as_parts_all (messages_in (drop k t))
 
 module _ (t : Bytes) (k : ℕ) (e : end_in t ≡ some k) (start len : ℕ) where
-  first_last : step_of t ≡ Frame start len false → first k t ≡ part_of false (take len (drop start t)) ∷ as_parts_all (messages_in (drop len (drop start t)))
+  first_last : step_of t ≡ found start len false → first k t ≡ part_of false (take len (drop start t)) ∷ as_parts_all (messages_in (drop len (drop start t)))
   unfolding as_parts
   first_last f =
       let c = cut_last t k e start len f in
       rw (c.1, c.0, ← drop-drop len start t)
 
-  first_more : step_of t ≡ Frame start len true
+  first_more : step_of t ≡ found start len true
       → (m : ℕ) × (end_in (drop len (drop start t)) ≡ some m) × (first k t ≡ part_of true (take len (drop start t)) ∷ first m (drop len (drop start t)))
   first_more f =
       let c = cut-more t k e start len f in
@@ -120,14 +116,17 @@ within zero ih s at k inside l e = end_nil k (rw (drop_of_length-le s {i = at} (
 within (suc n) ih s at k inside l e = rw (begins s at k e, or_true inside) (go (step_of (drop at s)) refl)
   where
     go : (x : Step) → step_of (drop at s) ≡ x → taken_on (taken n s) s (placed at x) ≡ first k (drop at s)
-    go Broken f = none_some k (ends_by (drop at s) k Broken e f)
-    go (Frame start len false) f =
-        let b = ih.0 s (at + start + len) (omega (arith, step_known (drop at s) start len false (sym f), length-drop at s)) in
-        rw (b, body-from s at start len, rest_from s at start len) (sym (first_last (drop at s) k e start len f))
-    go (Frame start len true) f =
-        let c = first_more (drop at s) k e start len f in
-        let w = ih.1 s (at + start + len) c.0 true (omega (arith, step_known (drop at s) start len true (sym f), length-drop at s)) (rw (rest_from s at start len) c.1) in
-        rw (w, body-from s at start len, rest_from s at start len) (sym c.2)
+    go None f = none_some k (ends_by (drop at s) k None e f)
+    go (Some x) f = framed x.start x.len x.more f
+      where
+        framed : (start len : ℕ) (more : Bool) → step_of (drop at s) ≡ found start len more → taken_on (taken n s) s (placed at (found start len more)) ≡ first k (drop at s)
+        framed start len false f =
+            let b = ih.0 s (at + start + len) (omega (arith, step_known (drop at s) start len false (sym f), length-drop at s)) in
+            rw (b, body-from s at start len, rest_from s at start len) (sym (first_last (drop at s) k e start len f))
+        framed start len true f =
+            let c = first_more (drop at s) k e start len f in
+            let w = ih.1 s (at + start + len) c.0 true (omega (arith, step_known (drop at s) start len true (sym f), length-drop at s)) (rw (rest_from s at start len) c.1) in
+            rw (w, body-from s at start len, rest_from s at start len) (sym c.2)
 
 nothing : (n : ℕ) (s : Bytes) (at : ℕ) → end_in (drop at s) ≡ none → taken n s at false ≡ []
 unfolding taken taken_at may_begin
@@ -154,62 +153,45 @@ takes_apart s =
     }
 
 -- nothing is taken from the end on
-pub past_end : (s : Bytes) (at : ℕ) (inside : Bool) → length s ≤ at → taken_at s at inside ≡ End
+pub past_end : (s : Bytes) (at : ℕ) (inside : Bool) → length s ≤ at → taken_at s at inside ≡ None
 unfolding taken_at step_of
 past_end s at inside h = rw (drop_of_length-le s {i = at} h) (go (may_begin s at inside))
   where
-    go : (t : Bool) → cond t End End ≡ End
+    go : (t : Bool) → cond {A = Step} t None None ≡ None
     go true = refl
     go false = refl
 
 -- what is taken moves the place on, and never past the end
-pub taken_moves : (s : Bytes) (at : ℕ) (inside : Bool) (start len : ℕ) (more : Bool) → Body start len more ≡ taken_at s at inside
+pub taken_moves : (s : Bytes) (at : ℕ) (inside : Bool) (start len : ℕ) (more : Bool) → found start len more ≡ taken_at s at inside
     → (at + 2 ≤ start + len) × (start + len ≤ length s)
 unfolding taken_at
 taken_moves s at inside start len more e = go (may_begin s at inside) (step_of (drop at s)) refl e
   where
-    go : (t : Bool) (x : Step) → step_of (drop at s) ≡ x → Body start len more ≡ cond t (placed at x) End → (at + 2 ≤ start + len) × (start + len ≤ length s)
-    go false x f h = absurd (let z : ◌≡◌ {A = ℕ} 0 1 = cc in omega arith)
-    go true Broken f h = absurd (let z : ◌≡◌ {A = ℕ} 0 1 = cc in omega arith)
-    go true (Frame a n m) f h =
-        let p : start ≡ at + a = cc in
-        let q : len ≡ n = cc in
-        let k = step_known (drop at s) a n m (sym f) in
-        (omega (arith, k), omega (arith, k, length-drop at s))
+    go : (t : Bool) (x : Step) → step_of (drop at s) ≡ x → found start len more ≡ cond t (placed at x) None → (at + 2 ≤ start + len) × (start + len ≤ length s)
+    go false x f h = cc
+    go true None f h = cc
+    go true (Some x) f h =
+        let w = same_frame start len (at + x.start) x.len more x.more h in
+        let k = step_known (drop at s) x.start x.len x.more (sym f) in
+        (omega (arith, k, w.0, w.1), omega (arith, k, w.0, w.1, length-drop at s))
 
 -- ---- the code
-pub begins_told : (m t : Bytes) → m ≡ message_in t → ltb 0 (length m) ≡ not (is_nil (message_in t))
-begins_told m t e = go m ∙ ap (λ (x : Bytes). not (is_nil x)) e
-  where
-    go : (m : Bytes) → ltb 0 (length m) ≡ not (is_nil m)
-    go [] = refl
-    go (x ∷ m) = lt-ltb 0 (length (x ∷ m)) (omega arith)
-
 module _ (s : Bytes) (at : ℕ) (inside : Bool) where
-  pub none_begins : (r : Bool) → r ≡ begins_message s at → not inside ≡ true → not r ≡ true → End ≡ taken_at s at inside
-  unfolding taken_at may_begin
-  none_begins r e i n = rw (not-true inside i, ← e, not-true r n)
+  pub none_begins : may_begin s at inside ≡ false → None ≡ taken_at s at inside
+  unfolding taken_at
+  none_begins e = rw e
 
-  pub none_there : Broken ≡ step_of (drop at s) → End ≡ taken_at s at inside
+  pub none_there : None ≡ step_of (drop at s) → None ≡ taken_at s at inside
   unfolding taken_at
   none_there e = rw (← e) (go (may_begin s at inside))
     where
-      go : (t : Bool) → End ≡ cond t End End
+      go : (t : Bool) → None ≡ cond {A = Step} t None None
       go true = refl
       go false = refl
 
-  -- what was asked before a frame is looked at: a message begins, or the place is inside one
-  pub one_there : (start len : ℕ) (more : Bool) → Frame start len more ≡ step_of (drop at s) → may_begin s at inside ≡ true → Body (at + start) len more ≡ taken_at s at inside
+  pub one_there : (start len : ℕ) (more : Bool) → found start len more ≡ step_of (drop at s) → may_begin s at inside ≡ true → found (at + start) len more ≡ taken_at s at inside
   unfolding taken_at
   one_there start len more e h = rw (h, ← e)
 
-  pub asked_inside : not inside ≡ false → may_begin s at inside ≡ true
-  unfolding may_begin
-  asked_inside h = rw (not-false inside h)
-
-  pub asked_between : (r : Bool) → r ≡ begins_message s at → not r ≡ false → may_begin s at inside ≡ true
-  unfolding may_begin
-  asked_between r e h = rw (← e, not-false r h, or_true inside)
-
-  pub place-fits : (start len : ℕ) (more : Bool) → Frame start len more ≡ step_of (drop at s) → at + start ≤ length s
+  pub place-fits : (start len : ℕ) (more : Bool) → found start len more ≡ step_of (drop at s) → at + start ≤ length s
   place-fits start len more e = omega (arith, step_known (drop at s) start len more e, length-drop at s)

@@ -1,12 +1,11 @@
 -- Messages from and to sockets, told by numbers, as hosts have them.
-use Rattle.std.specs.Prelude.{ℕ, zero, suc, ◌+◌, cond, not, List, [], ◌∷◌, ◌≡◌, eqb, get_or}
+use Rattle.std.specs.Prelude.{ℕ, zero, suc, ◌+◌, cond, not, List, [], ◌∷◌, ◌≡◌, eqb, get_or, Some, None}
 use Rattle.base.specs.Bytes.{Bytes}
+use Rattle.frames.specs.Steps.{Step}
 use Rattle.parts.specs.Build.{part_of, Put}
 use Rattle.parts.specs.Walk.{taken_at}
 use Rattle.parts.specs.declared.build.Built.TheVariants.{Open, Whole, Void}
 use Rattle.parts.specs.declared.build.Built.{Built}
-use Rattle.parts.specs.declared.walk.Taken.TheVariants.{Body, End}
-use Rattle.parts.specs.declared.walk.Taken.{Taken}
 
 -- ---- a message that is built: its length, and its stage
 -- stage 0 is open, 1 is whole, any other is void
@@ -30,16 +29,16 @@ pub record Added (d : Bytes) (w : List ℕ) (more : ℕ) (body : Bytes) (w' : Li
 
 -- ---- a frame: where its body starts, how long it is, and whether another frame of the same message follows
 -- the next frame begins where the body of f ends, inside a message if f has another after it
-abbrev pub after : Bytes → List ℕ → Taken
+abbrev pub after : Bytes → List ℕ → Step
 after s f = taken_at s (get_or f 0 0 + get_or f 1 0) (not (eqb (get_or f 2 0) 0))
 
-abbrev pub is_body : Taken → ℕ
-is_body End = 0
-is_body (Body start len more) = 1
+abbrev pub is_body : Step → ℕ
+is_body None = 0
+is_body (Some x) = 1
 
-abbrev pub body_or : List ℕ → Taken → List ℕ
-body_or f End = f
-body_or f (Body start len more) = start ∷ len ∷ cond more 1 0 ∷ []
+abbrev pub body_or : List ℕ → Step → List ℕ
+body_or f None = f
+body_or f (Some x) = x.start ∷ x.len ∷ cond x.more 1 0 ∷ []
 
 -- of the frame after f it is told whether there is one; then f' is that frame, and else f
 pub record FrameGiven (s : Bytes) (f : List ℕ) (r : ℕ) (f' : List ℕ) : Type 0 where

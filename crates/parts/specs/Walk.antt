@@ -1,21 +1,17 @@
 -- Messages that lie one after another, split into the parts that a socket sends.
-use Rattle.std.specs.Prelude.{ℕ, zero, suc, ◌+◌, ◌≤◌, Bool, true, false, cond, not, ◌||◌, List, [], ◌∷◌, ◌++◌, ◌≡◌, length, take, drop}
+use Rattle.std.specs.Prelude.{ℕ, zero, suc, ◌+◌, ◌≤◌, Bool, true, false, cond, not, ◌||◌, List, [], ◌∷◌, ◌++◌, ◌≡◌, length, take, drop, Some, None}
 use Rattle.std.proofs.Math.Option.{get_or}
 use Rattle.base.specs.Bytes.{Bytes, is_nil}
 use Rattle.frames.specs.Messages.{frames_in}
 use Rattle.frames.specs.Runs.{message_in, messages_in}
-use Rattle.frames.specs.Steps.{step_of}
-use Rattle.frames.specs.declared.step.Step.TheVariants.{Frame, Broken}
-use Rattle.frames.specs.declared.step.Step.{Step}
+use Rattle.frames.specs.Steps.{Step, found, step_of}
 use Rattle.parts.specs.Build.{Part, part_of}
-use Rattle.parts.specs.declared.walk.Taken.TheVariants.{Body, End}
-use Rattle.parts.specs.declared.walk.Taken.{Taken}
 
 -- ---- the next frame
 -- a frame at a place, its body counted from the front of the bytes
-abbrev pub placed : ℕ → Step → Taken
-placed at Broken = End
-placed at (Frame start len more) = Body (at + start) len more
+abbrev pub placed : ℕ → Step → Step
+placed at None = None
+placed at (Some f) = found (at + f.start) f.len f.more
 
 -- whether a whole message begins at a place
 abbrev pub begins_message : Bytes → ℕ → Bool
@@ -26,15 +22,15 @@ unfoldable pub may_begin : Bytes → ℕ → Bool → Bool
 may_begin s at inside = inside || begins_message s at
 
 -- the frame at a place, if one may be given
-unfoldable pub taken_at : Bytes → ℕ → Bool → Taken
-taken_at s at inside = cond (may_begin s at inside) (placed at (step_of (drop at s))) End
+unfoldable pub taken_at : Bytes → ℕ → Bool → Step
+taken_at s at inside = cond (may_begin s at inside) (placed at (step_of (drop at s))) None
 
 -- ---- all frames
 -- the parts that n calls take from a place on: each call begins where the body before it ends, inside its message if that
 -- frame promised another
-abbrev pub taken_on : (ℕ → Bool → List Part) → Bytes → Taken → List Part
-taken_on rest s End = []
-taken_on rest s (Body start len more) = part_of more (take len (drop start s)) ∷ rest (start + len) more
+abbrev pub taken_on : (ℕ → Bool → List Part) → Bytes → Step → List Part
+taken_on rest s None = []
+taken_on rest s (Some f) = part_of f.more (take f.len (drop f.start s)) ∷ rest (f.start + f.len) f.more
 
 unfoldable pub taken : ℕ → Bytes → ℕ → Bool → List Part
 taken zero s at inside = []

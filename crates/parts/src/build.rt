@@ -37,8 +37,7 @@ pub fn put_part(buffer: &mut [u8], built: Built, more: bool, body: &[u8]) -> Bui
 {
     match built {
         Built::Open(at) => put_at(buffer, at, more, body),
-        Built::Whole(_) => Built::Void,
-        Built::Void => Built::Void,
+        Built::Whole(_) | Built::Void => Built::Void,
     }
 }
 
@@ -47,8 +46,7 @@ pub fn length_of(built: Built) -> usize
     ensures { result ≡ length_of built }
 {
     match built {
-        Built::Open(n) => n,
-        Built::Whole(n) => n,
+        Built::Open(n) | Built::Whole(n) => n,
         Built::Void => 0,
     }
 }

@@ -4,7 +4,6 @@ ghost use Rattle.std.specs.Prelude.{◌≡◌};
 ghost use Rattle.parts.specs.Numbers.{built_of, numbers_of, Added, FrameGiven};
 
 use crate::build::Built;
-use crate::walk::Taken;
 use crate::{build, walk};
 use base::output;
 
@@ -12,12 +11,11 @@ use base::output;
 fn built_of(w: [u64; 2]) -> Built
     ensures { result ≡ built_of w }
 {
-    let n = w[0] as usize;
-    let stage = w[1];
+    let [n, stage] = w;
     match stage {
-        0 => Built::Open(n),
-        1 => Built::Whole(n),
-        2..=18446744073709551615 => Built::Void,
+        0 => Built::Open(n as usize),
+        1 => Built::Whole(n as usize),
+        _ => Built::Void,
     }
 }
 
@@ -44,11 +42,11 @@ pub fn add_part(buffer: &mut [u8], built: &mut [u64; 2], more: u64, part: &[u8])
 pub fn frame_after(bytes: &[u8], frame: &mut [u64; 3]) -> u64
     ensures { FrameGiven bytes.now frame.old result frame.new }
 {
-    let before = *frame;
-    let at = output::add_lengths(before[0] as usize, before[1] as usize);
-    let Taken::Body { start, len, more } = walk::next_frame(bytes, at, before[2] != 0) else {
+    let [start, len, more] = *frame;
+    let at = output::add_lengths(start as usize, len as usize);
+    let Some(next) = walk::next_frame(bytes, at, more != 0) else {
         return 0;
     };
-    *frame = [start as u64, len as u64, if more { 1 } else { 0 }];
+    *frame = [next.start as u64, next.len as u64, u64::from(next.more)];
     1
 }

@@ -1,61 +1,33 @@
 -- Laws of the ports' checks, as the code makes them. Assumes nothing.
+use Rattle.std.specs.Prelude.{Ok, Err}
 use Prim.Native.Nat.{ℕ, ◌<◌}
 use native.Mathlib.Omega.{arith}
-use mathlib.Core.Bool.{Bool, true, false, cond, not}
+use mathlib.Core.Bool.{not}
 use mathlib.Core.List.{List, [], ◌∷◌, ◌++◌}
 use mathlib.Core.Option.{Option, none, some, get_or}
 use mathlib.Core.Path.{◌≡◌, refl, sym, ap, ◌∙◌}
 use lib.Dec.{eqb}
 use lib.ListN.{length}
-use borrow.Author.Tests.{lt-ltb, eq-eqb, ne_eqb}
+use borrow.Author.Tests.{lt-ltb}
 use Rattle.answers.specs.Refusals.{verdict}
 use Rattle.answers.specs.declared.refusal.Refusal.TheVariants.{Framing, FrameCount}
 use Rattle.answers.specs.declared.refusal.Refusal.{Refusal}
-use Rattle.answers.specs.declared.refusal.Verdict.TheVariants.{Accept, Refuse as Refused}
-use Rattle.base.proofs.ByteLaws.{is_empty, not_empty}
-use Rattle.base.specs.Bytes.{Bytes, is_nil}
+use Rattle.base.specs.Bytes.{Bytes}
 use Rattle.base.specs.Checks.Check.{when}
 use Rattle.base.specs.Checks.{Check, first_refusal}
-use Rattle.base.specs.Octets.{number}
 use Rattle.frames.proofs.MessageLaws.{none_some}
 use Rattle.frames.proofs.RunLaws.{end_whole}
 use Rattle.frames.specs.Messages.{frames_in, frame_at}
 use Rattle.frames.specs.Runs.{end_in}
 use Rattle.framing.specs.Splits.{framing_by, framing_of, body_in, IsSplit}
-use Rattle.framing.specs.declared.Framing.TheVariants.{Frames, Broken, Surplus}
-use Rattle.framing.specs.declared.Framing.{Framing as FoundFraming}
 use Rattle.framing.specs.declared.Split.{Split}
 use Rattle.messages.specs.Fields.{Fields, fields_of}
-use Rattle.numbers.specs.Sequences.{sequence, is_sequence, numbered_of}
-use Rattle.numbers.specs.declared.sequence.Numbered.TheVariants.{By, Unnumbered}
-use Rattle.numbers.specs.declared.sequence.Sequence.{Sequence}
 use Rattle.ports.specs.Bodies.{framed_by, fields_at, kvset_by, icanhaz_by, snapshot_by, subscriber_by, lifetime_in, update_of}
 use Rattle.ports.specs.Ports.{is_none, framed, kvset_checks, kvset_port, icanhaz_checks, icanhaz_port, snapshot_checks, snapshot_port, published_checks, subscriber_port}
-use Rattle.ports.specs.declared.update.Update.TheVariants.{Refuse, Lasting}
-use Rattle.properties.specs.Properties.{properties_of, is_good}
+use Rattle.properties.specs.Properties.{properties_of}
 use Rattle.properties.specs.declared.read.Lifetime.{Lifetime}
-use Rattle.properties.specs.declared.read.Properties.TheVariants.{Good, Malformed}
-use Rattle.properties.specs.declared.read.Properties.{Properties}
 
 -- ---- the framing and the count of frames
-module _ (n : ℕ) (f : FoundFraming) where
-  pub stop-broken : f ≡ Broken → Refused Framing ≡ verdict (first_refusal (framed_by n f))
-  unfolding first_refusal
-  stop-broken e = rw e refl
-
-  pub stop_surplus : f ≡ Surplus → Refused Framing ≡ verdict (first_refusal (framed_by n f))
-  unfolding first_refusal
-  stop_surplus e = rw e refl
-
-  module _ (m : ℕ) (e : f ≡ Frames m) where
-    pub stop_count : (m ≡ n → ⊥) → Refused FrameCount ≡ verdict (first_refusal (framed_by n f))
-    unfolding first_refusal
-    stop_count h = rw (e, ne_eqb m n h)
-
-    pub pass_count : m ≡ n → Accept ≡ verdict (first_refusal (framed_by n f))
-    unfolding first_refusal
-    pass_count h = rw (e, eq-eqb m n h)
-
 module _ (msg : Bytes) (r : Split) (h : IsSplit msg r) where
   pub framing_is : (n : ℕ) → framed_by n r.framing ≡ framed n msg
   unfolding framing_of
@@ -100,60 +72,18 @@ module _ (msg : Bytes) (r : Split) (h : IsSplit msg r) where
 
 -- ---- an update that is read
 module _ (p : Bytes) (x : Option Refusal) where
-  pub update-refused : (r : Refusal) → Refuse r ≡ update_of p x → x ≡ some r
+  pub update-refused : (r : Refusal) → Err r ≡ update_of p x → x ≡ some r
   unfolding update_of
   update-refused r e = go x e
     where
-      go : (x : Option Refusal) → Refuse r ≡ update_of p x → x ≡ some r
+      go : (x : Option Refusal) → Err r ≡ update_of p x → x ≡ some r
       go none e = absurd (let z : ◌≡◌ {A = ℕ} 0 1 = cc in omega arith)
       go (some q) e = let i : q ≡ r = cc in ap some i
 
-  pub update-lasting : (l : Lifetime) → Lasting l ≡ update_of p x → (x ≡ none) × (l ≡ lifetime_in (properties_of p))
+  pub update-lasting : (l : Lifetime) → Ok l ≡ update_of p x → (x ≡ none) × (l ≡ lifetime_in (properties_of p))
   unfolding update_of
   update-lasting l e = go x e
     where
-      go : (x : Option Refusal) → Lasting l ≡ update_of p x → (x ≡ none) × (l ≡ lifetime_in (properties_of p))
+      go : (x : Option Refusal) → Ok l ≡ update_of p x → (x ≡ none) × (l ≡ lifetime_in (properties_of p))
       go none e = (refl, cc)
       go (some q) e = absurd (let z : ◌≡◌ {A = ℕ} 0 1 = cc in omega arith)
-
-pub lifetime_read : (p : Properties) (l : Lifetime) → Good l ≡ p → lifetime_in p ≡ l
-lifetime_read p l e = rw (← e) refl
-
--- ---- tests of a part of the message, x, that the table makes of its body, y
-module _ {x y : Bytes} (e : x ≡ y) where
-  -- a test that a function made: r is its answer
-  pub told : (test : Bytes → Bool) {r t : Bool} → r ≡ test x → not r ≡ t → not (test y) ≡ t
-  told test g h = rw (← e, ← g) h
-
-  pub empty_pass : length x ≡ 0 → is_nil y ≡ true
-  empty_pass h = rw (← e) (is_empty x h)
-
-  pub empty-stop : (length x ≡ 0 → ⊥) → is_nil y ≡ false
-  empty-stop h = rw (← e) (not_empty x h)
-
-  pub unnumbered_stop : Unnumbered ≡ numbered_of x → not (is_sequence y) ≡ true
-  unnumbered_stop h = rw (← e) (go (is_sequence x) h)
-    where
-      go : (t : Bool) → Unnumbered ≡ cond t (By (sequence (number x))) Unnumbered → not t ≡ true
-      go true h = absurd (let z : ◌≡◌ {A = ℕ} 0 1 = cc in omega arith)
-      go false h = refl
-
-  pub numbered_pass : (n : Sequence) → By n ≡ numbered_of x → not (is_sequence y) ≡ false
-  numbered_pass n h = rw (← e) (go (is_sequence x) h)
-    where
-      go : (t : Bool) → By n ≡ cond t (By (sequence (number x))) Unnumbered → not t ≡ false
-      go true h = refl
-      go false h = absurd (let z : ◌≡◌ {A = ℕ} 0 1 = cc in omega arith)
-
-  pub number_is : (n : Sequence) → By n ≡ numbered_of x → number y ≡ n.0
-  number_is n h = rw (← e) (go (is_sequence x) h)
-    where
-      go : (t : Bool) → By n ≡ cond t (By (sequence (number x))) Unnumbered → number x ≡ n.0
-      go true h = let z : n ≡ sequence (number x) = cc in rw z refl
-      go false h = absurd (let z : ◌≡◌ {A = ℕ} 0 1 = cc in omega arith)
-
-  pub good_pass : (l : Lifetime) → Good l ≡ properties_of x → not (is_good (properties_of y)) ≡ false
-  good_pass l h = rw (← e, ← h)
-
-  pub good_stop : Malformed ≡ properties_of x → not (is_good (properties_of y)) ≡ true
-  good_stop h = rw (← e, ← h)

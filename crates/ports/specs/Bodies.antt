@@ -1,5 +1,6 @@
 -- A message as it is handed on inside: its framing, and its fields by the places of their frames.
-use Rattle.std.specs.Prelude.{ℕ, Bool, true, false, not, List, [], ◌∷◌, ◌++◌, eqb}
+use Rattle.std.specs.Prelude
+use Rattle.std.specs.Prelude.{ℕ, Bool, true, false, not, List, [], ◌∷◌, ◌++◌, eqb, Some, None, Result, Ok, Err}
 use Rattle.std.proofs.Math.Option.{Option, none, some}
 use Rattle.answers.specs.declared.refusal.Refusal.TheVariants.{Framing as FramingRefused, FrameCount}
 use Rattle.answers.specs.declared.refusal.Refusal.{Refusal}
@@ -7,34 +8,27 @@ use Rattle.base.specs.Bytes.{Bytes}
 use Rattle.base.specs.Checks.Check.{when}
 use Rattle.base.specs.Checks.{Check}
 use Rattle.framing.specs.Splits.{body_in}
-use Rattle.framing.specs.declared.Framing.TheVariants.{Frames, Broken, Surplus}
-use Rattle.framing.specs.declared.Framing.{Framing}
+use Rattle.framing.specs.declared.Flaw.{Flaw}
 use Rattle.framing.specs.declared.Places.{Places}
 use Rattle.framing.specs.declared.Split.{Split}
 use Rattle.messages.specs.Fields.{Fields, fields}
 use Rattle.ports.specs.Ports.{kvset_checks, icanhaz_checks, snapshot_checks, published_checks}
-use Rattle.ports.specs.declared.update.Update.TheVariants.{Refuse, Lasting}
-use Rattle.ports.specs.declared.update.Update.{Update}
 use Rattle.properties.specs.Properties.{properties_of}
 use Rattle.properties.specs.declared.read.Lifetime.TheVariants.{Unlimited}
 use Rattle.properties.specs.declared.read.Lifetime.{Lifetime}
-use Rattle.properties.specs.declared.read.Properties.TheVariants.{Good, Malformed}
-use Rattle.properties.specs.declared.read.Properties.{Properties}
 
 -- ---- the framing
-abbrev pub is_sound : Framing → Bool
-is_sound (Frames n) = true
-is_sound Broken = false
-is_sound Surplus = false
+abbrev pub is_sound : Result ℕ Flaw → Bool
+is_sound (Ok n) = true
+is_sound (Err flaw) = false
 
 -- how many frames there are; none where the framing is unsound
-abbrev pub count_of : Framing → ℕ
-count_of (Frames n) = n
-count_of Broken = 0
-count_of Surplus = 0
+abbrev pub count_of : Result ℕ Flaw → ℕ
+count_of (Ok n) = n
+count_of (Err flaw) = 0
 
 -- the checks `framed` of a message, by its framing
-abbrev pub framed_by : ℕ → Framing → List (Check Refusal)
+abbrev pub framed_by : ℕ → Result ℕ Flaw → List (Check Refusal)
 framed_by n framing =
     when (not (is_sound framing)) FramingRefused
     ∷ when (not (eqb (count_of framing) n)) FrameCount
@@ -58,10 +52,10 @@ abbrev pub subscriber_by : Bytes → Split → List (Check Refusal)
 subscriber_by msg r = framed_by 5 r.framing ++ published_checks (fields_at msg r.places)
 
 -- ---- an update that passes its checks, with the lifetime that its properties give
-abbrev pub lifetime_in : Properties → Lifetime
-lifetime_in (Good lifetime) = lifetime
-lifetime_in Malformed = Unlimited
+abbrev pub lifetime_in : Prelude.Option Lifetime → Lifetime
+lifetime_in (Some lifetime) = lifetime
+lifetime_in None = Unlimited
 
-unfoldable pub update_of : Bytes → Option Refusal → Update
-update_of properties none = Lasting (lifetime_in (properties_of properties))
-update_of properties (some r) = Refuse r
+unfoldable pub update_of : Bytes → Option Refusal → Result Lifetime Refusal
+update_of properties none = Ok (lifetime_in (properties_of properties))
+update_of properties (some r) = Err r

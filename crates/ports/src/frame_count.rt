@@ -4,21 +4,16 @@ ghost use Rattle.answers.specs.Refusals.{verdict};
 ghost use Rattle.base.specs.Checks.{first_refusal};
 ghost use Rattle.ports.specs.Bodies.{framed_by};
 
-use answers::refusal::{Refusal, Verdict};
-use framing::Framing;
+use answers::refusal::Refusal;
+use framing::Flaw;
 
 // Whether the framing of a message is sound, and whether it has so many frames.
-pub fn check_framing(framing: Framing, count: usize) -> Verdict
+pub fn check_framing(framing: Result<usize, Flaw>, count: usize) -> Result<(), Refusal>
     ensures { result ≡ verdict (first_refusal (framed_by count framing)) }
 {
     match framing {
-        Framing::Broken => Verdict::Refuse(Refusal::Framing),
-        Framing::Surplus => Verdict::Refuse(Refusal::Framing),
-        Framing::Frames(n) => {
-            if n != count {
-                return Verdict::Refuse(Refusal::FrameCount);
-            }
-            Verdict::Accept
-        }
+        Err(_) => Err(Refusal::Framing),
+        Ok(n) if n != count => Err(Refusal::FrameCount),
+        Ok(_) => Ok(()),
     }
 }

@@ -6,7 +6,6 @@ ghost use Rattle.ports.specs.Ports.{value_port, value_in};
 
 use crate::frame_count::check_framing;
 use answers::refusal;
-use answers::refusal::Verdict;
 use messages::{FRAMES, VALUE};
 
 // The value frame of a five-frame message, as a part of it; the empty part where the message is refused.
@@ -14,11 +13,10 @@ pub fn value_frame(msg: &[u8]) -> &[u8]
     ensures { result.now ≡ value_in msg.now }
 {
     let split = framing::split_message(msg);
-    let framing = split.framing;
-    let Verdict::Accept = check_framing(framing, FRAMES) else {
-        return &msg[..0];
-    };
-    framing::body(msg, split.places, VALUE)
+    match check_framing(split.framing, FRAMES) {
+        Ok(()) => framing::body(msg, split.places, VALUE),
+        Err(_) => &msg[..0],
+    }
 }
 
 // 0 where a message has five frames, and else the number of its refusal.
@@ -26,6 +24,5 @@ pub fn value_refusal(msg: &[u8]) -> u64
     ensures { result ≡ verdict_number (verdict (first_refusal (value_port msg.now))) }
 {
     let split = framing::split_message(msg);
-    let framing = split.framing;
-    refusal::verdict_number(check_framing(framing, FRAMES))
+    refusal::verdict_number(check_framing(split.framing, FRAMES))
 }

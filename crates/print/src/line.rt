@@ -1,5 +1,4 @@
 // Lines, and parts of lines.
-use base::bytes;
 use std::io;
 
 // A part of a line, as it is.
@@ -15,44 +14,29 @@ pub fn number(rt: &impl Print, label: &[u8], n: u64) -> io::Result<()> {
 
 // A line with a heading, and an empty line in front of it.
 pub fn heading(rt: &impl Print, t: &[u8]) -> io::Result<()> {
-    text(rt, b"\n# ")?;
+    print!(rt; "\n# ")?;
     text(rt, t)?;
-    text(rt, b"\n")
-}
-
-fn octet(rt: &impl Print, b: u8) -> io::Result<()> {
-    print!(rt; " {b:02x}")
-}
-
-fn each(rt: &impl Print, b: &[u8]) -> io::Result<()> {
-    let mut i = 0;
-    while i < b.len() {
-        octet(rt, b[i])?;
-        i += 1;
-    }
-    Ok(())
+    println!(rt)
 }
 
 // A line with what some bytes are: how many, and each in hexadecimal.
 pub fn hex(rt: &impl Print, label: &[u8], b: &[u8]) -> io::Result<()> {
     text(rt, label)?;
-    number(rt, b", ", b.len() as u64)?;
-    text(rt, b" bytes:")?;
-    each(rt, b)?;
-    text(rt, b"\n")
+    print!(rt; ", {} bytes:", b.len())?;
+    for x in b {
+        print!(rt; " {x:02x}")?;
+    }
+    println!(rt)
 }
 
 // A line that says whether something is as expected.
 pub fn expected(rt: &impl Print, label: &[u8], good: bool) -> io::Result<()> {
     text(rt, label)?;
-    if good {
-        text(rt, b": as expected\n")
-    } else {
-        text(rt, b": DIFFERENT\n")
-    }
+    let said = if good { "as expected" } else { "DIFFERENT" };
+    println!(rt; ": {said}")
 }
 
 // A line that holds some bytes against the ones expected.
 pub fn compare(rt: &impl Print, label: &[u8], got: &[u8], want: &[u8]) -> io::Result<()> {
-    expected(rt, label, bytes::same_bytes(got, want))
+    expected(rt, label, got == want)
 }

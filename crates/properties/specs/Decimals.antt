@@ -1,8 +1,7 @@
 -- Decimal numbers of a bounded length and size. Leading zeros count as digits.
-use Rattle.std.specs.Prelude.{ℕ, ◌+◌, ◌-◌, ◌*◌, Bool, cond, ◌&&◌, [], ◌∷◌, leb, length}
+use Rattle.std.specs.Prelude
+use Rattle.std.specs.Prelude.{ℕ, ◌+◌, ◌-◌, ◌*◌, Bool, cond, ◌&&◌, [], ◌∷◌, leb, length, Some, None}
 use Rattle.base.specs.Bytes.{Bytes, every}
-use Rattle.properties.specs.declared.decimal.Decimal.TheVariants.{Is, Wrong}
-use Rattle.properties.specs.declared.decimal.Decimal.{Decimal}
 
 abbrev pub is_digit : ℕ → Bool
 is_digit b = leb 48 b && leb b 57
@@ -13,6 +12,6 @@ decimal_from n [] = n
 decimal_from n (b ∷ s) = decimal_from (n * 10 + (b - 48)) s
 
 -- 1 to so many digits, and a number of at most so much
-unfoldable pub decimal_of : ℕ → ℕ → Bytes → Decimal
+unfoldable pub decimal_of : ℕ → ℕ → Bytes → Prelude.Option ℕ
 decimal_of digits most s =
-    cond (leb 1 (length s) && leb (length s) digits && (every is_digit s && leb (decimal_from 0 s) most)) (Is (decimal_from 0 s)) Wrong
+    cond (leb 1 (length s) && leb (length s) digits && (every is_digit s && leb (decimal_from 0 s) most)) (Some (decimal_from 0 s)) None

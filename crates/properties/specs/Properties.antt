@@ -1,16 +1,13 @@
 -- Properties are lines: each a name, an equals sign and a value, and ended by a newline. They take 128 bytes at most.
 -- One of them may be named ttl, and says how many seconds a row lives, in up to five digits.
-use Rattle.std.specs.Prelude.{ℕ, Bool, true, false, cond, not, ◌&&◌, List, [], ◌∷◌, leb, length}
+use Rattle.std.specs.Prelude
+use Rattle.std.specs.Prelude.{ℕ, Bool, true, false, cond, not, ◌&&◌, List, [], ◌∷◌, leb, length, Some, None}
 use Rattle.std.proofs.Math.Option.{Option, none, some, map}
 use Rattle.base.specs.Bytes.{Bytes, ascii, is_nil, same, holds}
 use Rattle.base.specs.Cuts.{before, behind, pieces}
 use Rattle.properties.specs.Decimals.{decimal_of}
-use Rattle.properties.specs.declared.decimal.Decimal.TheVariants.{Is, Wrong}
-use Rattle.properties.specs.declared.decimal.Decimal.{Decimal}
 use Rattle.properties.specs.declared.read.Lifetime.TheVariants.{Unlimited, Seconds}
 use Rattle.properties.specs.declared.read.Lifetime.{Lifetime}
-use Rattle.properties.specs.declared.read.Properties.TheVariants.{Good, Malformed}
-use Rattle.properties.specs.declared.read.Properties.{Properties}
 
 pub record Property : Type 0 where
   pub name : Bytes
@@ -55,32 +52,32 @@ ttls [] = []
 ttls (p ∷ ps) = cond (same (ascii "ttl") p.name) (p.value ∷ ttls ps) (ttls ps)
 
 -- the seconds of a ttl
-abbrev pub seconds_in : Bytes → Decimal
+abbrev pub seconds_in : Bytes → Prelude.Option ℕ
 seconds_in value = decimal_of 5 86400 value
 
-abbrev pub lasting : Decimal → Properties
-lasting (Is n) = Good (Seconds n)
-lasting Wrong = Malformed
+abbrev pub lasting : Prelude.Option ℕ → Prelude.Option Lifetime
+lasting (Some n) = Some (Seconds n)
+lasting None = None
 
 -- no ttl, or one
-abbrev pub lifetime_of : List Bytes → Properties
-lifetime_of [] = Good Unlimited
+abbrev pub lifetime_of : List Bytes → Prelude.Option Lifetime
+lifetime_of [] = Some Unlimited
 lifetime_of (value ∷ []) = lasting (seconds_in value)
-lifetime_of (_ ∷ _ ∷ _) = Malformed
+lifetime_of (_ ∷ _ ∷ _) = None
 
-abbrev pub judged : Option (List Property) → Properties
-judged none = Malformed
+abbrev pub judged : Option (List Property) → Prelude.Option Lifetime
+judged none = None
 judged (some ps) = lifetime_of (ttls ps)
 
 -- what a properties frame says
-unfoldable pub properties_of : Bytes → Properties
-properties_of s = cond (leb (length s) 128) (judged (properties_in s)) Malformed
+unfoldable pub properties_of : Bytes → Prelude.Option Lifetime
+properties_of s = cond (leb (length s) 128) (judged (properties_in s)) None
 
 -- the seconds of a lifetime; 0 where it is unlimited
 abbrev pub seconds_of : Lifetime → ℕ
 seconds_of Unlimited = 0
 seconds_of (Seconds n) = n
 
-abbrev pub is_good : Properties → Bool
-is_good (Good l) = true
-is_good Malformed = false
+abbrev pub is_good : Prelude.Option Lifetime → Bool
+is_good (Some l) = true
+is_good None = false

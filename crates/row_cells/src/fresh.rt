@@ -9,6 +9,7 @@ use base::output;
 use frame_forms::lengths::VALUE_ROOM;
 use keys::KEY_ROOM;
 
+// The fields are as large as their cells, with the lengths beside them: a row lies in fixed memory, and has no heap.
 #[derive(Clone, Copy)]
 pub struct Row {
     pub key: [u8; KEY_ROOM],

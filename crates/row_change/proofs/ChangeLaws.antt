@@ -1,17 +1,15 @@
 -- Laws of a change of one row: what it does to lists side by side is what it does to the rows that they make. Assumes nothing.
-use Prim.Native.Nat.{ℕ, zero, suc, ◌+◌, ◌-◌, ◌*◌, ◌≤◌, ◌<◌}
+use Prim.Native.Nat.{ℕ, zero, suc, ◌≤◌}
 use mathlib.Core.Bool.{Bool, true}
 use mathlib.Core.List.{List, [], ◌∷◌, zip_with}
 use mathlib.Core.Path.{◌≡◌, refl, ap, ◌∙◌}
-use native.Mathlib.Nat.{mul-le-mul_left, mul-suc}
 use native.Mathlib.Omega.{arith}
 use lib.ListN.{length, set}
 use Rattle.base.proofs.ByteLaws.{and_left, and_right}
 use Rattle.base.specs.Bytes.{Bytes, every}
-use Rattle.base.specs.Output.{put}
-use Rattle.cells.proofs.CellLaws.{length-cells, cells_replaced, cells_inserted}
+use Rattle.cells.proofs.CellLaws.{length-cells}
 use Rattle.cells.proofs.ListLaws.{zip_set, zip-insert, zip-remove}
-use Rattle.cells.specs.Cells.{cells, insert_at, remove_at, CellIn}
+use Rattle.cells.specs.Cells.{cells, insert_at, remove_at}
 use Rattle.row_cells.specs.Sizes.{max_rows, cell_size, length_count}
 use Rattle.row_cells.specs.Texts.{cell_key, cell_value, keys_of, values_of}
 use Rattle.row_change.specs.Changes.{changed, count_after, Fits, stores, Altered}
@@ -97,49 +95,3 @@ module _ (change : Change) (n : ℕ) (h : Fits change n) {cell : Bytes} {lens by
   pub values_after : values_of (count_after change n) bytes' lengths' ≡ changed change (cell_value cell lens) (values_of n bytes lengths)
   unfolding values_of
   values_after = read_after cell_value
-
--- ---- from the kind of a change, as the functions tell it, to the change
-module _ {change : Change} {i n : ℕ} where
-  pub fits-remove : change ≡ Remove i → Fits change n → (i < n) × (n ≤ max_rows)
-  fits-remove e h = rw e at h
-
-  pub fits_replace : change ≡ Replace i → Fits change n → (i < n) × (n ≤ max_rows)
-  fits_replace e h = rw e at h
-
-  pub fits-insert : change ≡ Insert i → Fits change n → (i ≤ n) × (n < max_rows)
-  fits-insert e h = rw e at h
-
--- of the first cells, as `first` reads them
-module _ {A B : Type 0} (first : ℕ → List B → List A) {change : Change} (n : ℕ) (a : A) (old new : List B) where
-  pub by_leave : change ≡ Leave → first (count_after change n) old ≡ changed change a (first n old)
-  by_leave e = rw e
-
-  pub by_remove : {i : ℕ} → change ≡ Remove i → Fits change n → first (n - 1) new ≡ remove_at i (first (n - 1 + 1) old)
-      → first (count_after change n) new ≡ changed change a (first n old)
-  by_remove e h g =
-      let b = fits-remove e h in
-      let k : n - 1 + 1 ≡ n = omega arith in
-      rw e (rw k at g)
-
-  pub by_replace : {i : ℕ} → change ≡ Replace i → first n new ≡ set (first n old) i a
-      → first (count_after change n) new ≡ changed change a (first n old)
-  by_replace e g = rw e g
-
-  pub by_insert : {i : ℕ} → change ≡ Insert i → first (n + 1) new ≡ insert_at i a (first n old)
-      → first (count_after change n) new ≡ changed change a (first n old)
-  by_insert e g = rw e g
-
--- ---- cells, of bytes or of words
-pub cell-within : (s j : ℕ) (l : List ℕ) → s * max_rows ≤ length l → j < max_rows → s * j + s ≤ length l
-cell-within s j l b k = omega (arith, mul-le-mul_left s k, mul-suc s j)
-
-module _ (s : ℕ) {change : Change} {i : ℕ} (n : ℕ) (cell old new : List ℕ) (h : Fits change n) where
-  pub cells_replace : s * max_rows ≤ length old → change ≡ Replace i → length cell ≡ s → new ≡ put old (s * i) cell
-      → cells s (count_after change n) new ≡ changed change cell (cells s n old)
-  cells_replace b e w g =
-      let f = fits_replace e h in
-      by_replace (cells s) n cell old new e (cells_replaced s n i cell old new w f.0 (omega (arith, mul-le-mul_left s f.1)) g)
-
-  pub cells-insert : change ≡ Insert i → length cell ≡ s → CellIn s i n cell old new
-      → cells s (count_after change n) new ≡ changed change cell (cells s n old)
-  cells-insert e w g = by_insert (cells s) n cell old new e (cells_inserted s n i cell old new w (fits-insert e h).0 g)

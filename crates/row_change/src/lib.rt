@@ -7,7 +7,6 @@ ghost use Rattle.row_cells.specs.FreshRows.{cell_of};
 ghost use Rattle.row_cells.specs.Sizes.{max_rows};
 ghost use Rattle.row_change.specs.Changes.{changed, count_after, Fits, is_over, Altered};
 
-use cells::{bytes, words};
 use row_cells::fresh::Row;
 use row_cells::{CELL, LENGTHS, MAX_ROWS, RowBytes, RowLengths};
 
@@ -26,9 +25,8 @@ pub fn count_after(change: Change, count: usize) -> usize
     ensures { result ≡ count_after change count }
 {
     match change {
-        Change::Leave => count,
+        Change::Leave | Change::Replace(_) => count,
         Change::Remove(_) => count - 1,
-        Change::Replace(_) => count,
         Change::Insert(_) => count + 1,
     }
 }
@@ -38,21 +36,19 @@ pub fn overfills(change: Change, count: usize) -> bool
     ensures { result ≡ is_over change count }
 {
     match change {
-        Change::Leave => false,
-        Change::Remove(_) => false,
-        Change::Replace(_) => false,
+        Change::Leave | Change::Remove(_) | Change::Replace(_) => false,
         Change::Insert(_) => MAX_ROWS <= count,
     }
 }
 
-// A change in cells of bytes. The cell of the changed row is given whole, in two pieces.
-fn change_bytes<'a>(
-    all: &mut [u8],
+// A change in an array of cells. The cell of the changed row is given whole, in two pieces.
+pub fn change_cells<T: Copy>(
+    all: &mut [T],
     stride: usize,
     change: Change,
     count: usize,
-    front: &'a [u8],
-    back: &'a [u8],
+    front: &[T],
+    back: &[T],
 )
     requires { Fits change count
         × ((stride * max_rows ≤ length all.old) × (length front.now + length back.now ≡ stride)) }
@@ -61,35 +57,9 @@ fn change_bytes<'a>(
 {
     match change {
         Change::Leave => {}
-        Change::Remove(i) => {
-            bytes::remove_cell(all, stride, i, count - 1);
-        }
-        Change::Replace(i) => {
-            bytes::write_cell(all, stride, i, front, back);
-        }
-        Change::Insert(i) => {
-            bytes::insert_cell(all, stride, i, count, front, back);
-        }
-    }
-}
-
-// A change in cells of words. The cell of the changed row is given whole.
-pub fn change_words(all: &mut [u64], stride: usize, change: Change, count: usize, cell: &[u64])
-    requires { Fits change count × ((stride * max_rows ≤ length all.old) × (length cell.now ≡ stride)) }
-    ensures { cells stride (count_after change count) all.new
-        ≡ changed change cell.now (cells stride count all.old) }
-{
-    match change {
-        Change::Leave => {}
-        Change::Remove(i) => {
-            words::remove_cell(all, stride, i, count - 1);
-        }
-        Change::Replace(i) => {
-            words::write_cell(all, stride, i, cell);
-        }
-        Change::Insert(i) => {
-            words::insert_cell(all, stride, i, count, cell);
-        }
+        Change::Remove(i) => cells::remove_cell(all, stride, i, count - 1),
+        Change::Replace(i) => cells::write_cell(all, stride, i, front, back),
+        Change::Insert(i) => cells::insert_cell(all, stride, i, count, front, back),
     }
 }
 
@@ -105,6 +75,6 @@ pub fn change_row(
     ensures { Altered change (cell_of row) row.lengths count
         bytes.old lengths.old bytes.new lengths.new }
 {
-    change_bytes(bytes, CELL, change, count, &row.key, &row.value);
-    change_words(lengths, LENGTHS, change, count, &row.lengths);
+    change_cells(bytes, CELL, change, count, &row.key, &row.value);
+    change_cells(lengths, LENGTHS, change, count, &row.lengths, &[]);
 }

@@ -1,23 +1,20 @@
 -- Laws of tests that pass over a list: from the front with a flag, and by what is left. Assumes nothing.
-use Prim.Native.Nat.{ℕ, zero, suc, ◌+◌, ◌-◌, ◌≤◌, ◌<◌}
+use Prim.Native.Nat.{ℕ, zero, suc, ◌+◌, ◌≤◌, ◌<◌}
 use native.Mathlib.Nat.{le_of_suc-le-suc, not-suc-le-zero}
 use native.Mathlib.Numerals.{add-one}
 use native.Mathlib.Omega.{arith}
-use mathlib.Core.Bool.{Bool, true, false, not, ◌&&◌, and-true, and-false, and_assoc}
+use mathlib.Core.Bool.{Bool, true, false, ◌&&◌, and-true, and-false, and_assoc}
 use mathlib.Core.List.{List, [], ◌∷◌}
-use mathlib.Core.Option.{none, some}
 use mathlib.Core.Path.{◌≡◌, refl, sym, ap, ◌∙◌}
 use lib.Dec.{leb}
 use lib.ListN.{length, get_or, take, drop, drop_of_length-le}
 use lib.Seq.{drop-cons}
-use Rattle.answers.specs.declared.refusal.Refusal.TheVariants.{IllFormed}
+use Rattle.std.specs.Ordering.{is_ge}
+use Rattle.std.specs.declared.cmp.Ordering.TheVariants.{Less, Equal, Greater}
+use Rattle.std.specs.declared.cmp.Ordering.{Ordering}
 use Rattle.base.specs.Bytes.{Bytes, every}
-use Rattle.base.specs.Checks.Check.{when}
-use Rattle.base.specs.Checks.{first_refusal}
 use Rattle.base.specs.Cuts.{pieces}
 use Rattle.key_order.specs.Order.{order_of}
-use Rattle.key_order.specs.declared.Order.TheVariants.{Less}
-use Rattle.key_order.specs.declared.Order.{Order}
 use Rattle.rows.specs.Rows.{rising, is_less}
 use Rattle.frame_forms.specs.Lengths.{value_room}
 use Rattle.keys.specs.Keys.{key_room, is_key}
@@ -33,26 +30,24 @@ module _ {A : Type 0} (test : A → Bool) where
   every_more (x ∷ l) (suc i) d h =
       ap (λ (b : Bool). test x && b) (every_more l i d (le_of_suc-le-suc h)) ∙ sym (and_assoc (test x) (every test (take i l)) (test (get_or l i d)))
 
-  -- what a pass that ends at the first refusal keeps: x is the answer, and i elements are passed
-  module _ (l : List A) (i : ℕ) (d : A) (x : Bool) (h : x ≡ every test (drop i l)) where
-    pub every_turn : i < length l → test (get_or l i d) ≡ true → x ≡ every test (drop (i + 1) l)
-    unfolding every
-    every_turn k e = h ∙ rw (drop-cons l i d k, e, add-one)
+  -- what is true at each place is true of all
+  pub every_place : (l : List A) (d : A) → ((i : ℕ) → i < length l → test (get_or l i d) ≡ true) → every test l ≡ true
+  unfolding every
+  every_place [] d h = refl
+  every_place (x ∷ l) d h = rw (h 0 (omega arith), every_place l d (λ i k. h (suc i) (omega arith)))
 
-    pub every-stop : i < length l → test (get_or l i d) ≡ false → false ≡ x
-    unfolding every
-    every-stop k e = sym (h ∙ rw (drop-cons l i d k, e))
-
-    pub every_done : length l ≤ i → true ≡ x
-    unfolding every
-    every_done k = sym (h ∙ rw (drop_of_length-le l k))
+  -- and what is false at one is not
+  pub every-but : (l : List A) (d : A) (i : ℕ) → i < length l → test (get_or l i d) ≡ false → every test l ≡ false
+  unfolding every
+  every-but [] d i k e = absurd (not-suc-le-zero k)
+  every-but (x ∷ l) d zero k e = rw e
+  every-but (x ∷ l) d (suc i) k e = rw (every-but l d i (le_of_suc-le-suc k) e, and-false (test x))
 
 -- a flag, after the lengths of one row more
 pub fitting-more : (cs : List (List ℕ)) (i : ℕ) (good : Bool) (cell : List ℕ) → get_or cs i [] ≡ cell → i < length cs → good ≡ every fitting (take i cs)
-    → (good && leb (key_length cell) key_room && leb 1 (value_length cell) && leb (value_length cell) value_room) ≡ every fitting (take (i + 1) cs)
+    → (good && (leb (key_length cell) key_room && leb 1 (value_length cell) && leb (value_length cell) value_room)) ≡ every fitting (take (i + 1) cs)
 fitting-more cs i good cell own h e =
-    and_assoc (good && leb (key_length cell) key_room) (leb 1 (value_length cell)) (leb (value_length cell) value_room)
-    ∙ and_assoc good (leb (key_length cell) key_room) (leb 1 (value_length cell) && leb (value_length cell) value_room)
+    ap (λ (b : Bool). good && b) (and_assoc (leb (key_length cell) key_room) (leb 1 (value_length cell)) (leb (value_length cell) value_room))
     ∙ ap (λ (b : Bool). b && fitting cell) e
     ∙ ap (λ (c : List ℕ). every fitting (take i cs) && fitting c) (sym own)
     ∙ sym (rw add-one (every_more fitting cs i [] h))
@@ -95,25 +90,22 @@ module _ (l : List Bytes) (before : Bytes) (i : ℕ) (x : Bool) (h : Passed x l 
     pub no_key : is_key key ≡ false → false ≡ x
     no_key e = sym (next k ∙ rw (own, e))
 
-    pub not_above : (o : Order) → order_of before key ≡ o → is_less o ≡ false → false ≡ x
-    not_above o e n = sym (next k ∙ rw (own, e, n, and-false (is_key key)))
+    pub not_above : is_ge (order_of before key) ≡ true → false ≡ x
+    not_above e = go (order_of before key) refl e
+      where
+        go : (o : Ordering) → order_of before key ≡ o → is_ge o ≡ true → false ≡ x
+        go Less f e = cc
+        go Equal f e = sym (next k ∙ rw (own, f, and-false (is_key key)))
+        go Greater f e = sym (next k ∙ rw (own, f, and-false (is_key key)))
 
-    pub sorted_turn : is_key key ≡ true → order_of before key ≡ Less → Passed x l key (i + 1)
-    sorted_turn e o = next k ∙ rw (own, e, o, add-one)
+    pub sorted_turn : is_key key ≡ true → is_ge (order_of before key) ≡ false → Passed x l key (i + 1)
+    sorted_turn e n = go (order_of before key) refl n
+      where
+        go : (o : Ordering) → order_of before key ≡ o → is_ge o ≡ false → Passed x l key (i + 1)
+        go Less f n = next k ∙ rw (own, e, f, add-one)
+        go Equal f n = cc
+        go Greater f n = cc
 
   pub sorted_done : length l ≤ i → true ≡ x
   unfolding sorted_from
   sorted_done k = sym (h ∙ ap (sorted_from before) (drop_of_length-le l k))
-
--- ---- the two faults that one test finds
-pub both_faults : (a b : Bool) → (a && b) ≡ false → first_refusal (when (not a) IllFormed ∷ when (not b) IllFormed ∷ []) ≡ some IllFormed
-unfolding first_refusal
-both_faults true true e = absurd (let z : ◌≡◌ {A = ℕ} 0 1 = cc in omega arith)
-both_faults true false e = refl
-both_faults false b e = refl
-
-pub no_fault : (a b : Bool) → (a && b) ≡ true → first_refusal (when (not a) IllFormed ∷ when (not b) IllFormed ∷ []) ≡ none
-unfolding first_refusal
-no_fault true true e = refl
-no_fault true false e = absurd (let z : ◌≡◌ {A = ℕ} 0 1 = cc in omega arith)
-no_fault false b e = absurd (let z : ◌≡◌ {A = ℕ} 0 1 = cc in omega arith)

@@ -12,10 +12,8 @@ ghost use Rattle.row_cells.specs.Sizes.{max_rows, length_count};
 ghost use Rattle.row_cells.specs.Texts.{keys_of};
 ghost use Rattle.rows.specs.Rows.{rising};
 
-use answers::refusal::{Refusal, Verdict};
-use base::bytes as slices;
+use answers::refusal::Refusal;
 use frame_forms::lengths::VALUE_ROOM;
-use key_order::Order;
 use keys::KEY_ROOM;
 use row_cells::{MAX_ROWS, RowBytes, RowLengths, text};
 
@@ -25,12 +23,10 @@ fn are_fitting(lengths: &RowLengths, count: usize) -> bool
     ensures { result ≡ every fitting (cells length_count count lengths.now) }
 {
     let mut good = true;
-    let mut i = 0;
-    while i < count {
+    for i in 0..count {
         let key = text::key_length_at(lengths, i);
         let value = text::value_length_at(lengths, i);
-        good = good & (key <= KEY_ROOM) & (1 <= value) & (value <= VALUE_ROOM);
-        i += 1;
+        good &= (key <= KEY_ROOM) & (1 <= value) & (value <= VALUE_ROOM);
     }
     good
 }
@@ -42,25 +38,13 @@ fn are_sorted_keys<'a>(bytes: &'a RowBytes, lengths: &'a RowLengths, count: usiz
     ensures { result ≡ (every is_key (keys_of count bytes.now lengths.now)
         && rising (keys_of count bytes.now lengths.now)) }
 {
-    let mut before = slices::front(bytes, 0);
-    let mut i = 0;
-    while i < count {
+    let mut before: &[u8] = &[];
+    for i in 0..count {
         let key = text::key_at(bytes, lengths, i);
-        if !keys::is_key(key) {
+        if !keys::is_key(key) || key_order::compare(before, key).is_ge() {
             return false;
         }
-        match key_order::compare(before, key) {
-            Order::Less => {
-                before = key;
-                i += 1;
-            }
-            Order::Equal => {
-                return false;
-            }
-            Order::Greater => {
-                return false;
-            }
-        }
+        before = key;
     }
     true
 }
@@ -76,29 +60,24 @@ pub fn are_under<'a>(
     ensures { result
         ≡ every (under subtree.now) (keys_of count bytes.now lengths.now) }
 {
-    let mut i = 0;
-    while i < count {
-        if !keys::is_under(subtree, text::key_at(bytes, lengths, i)) {
-            return false;
-        }
-        i += 1;
-    }
-    true
+    (0..count).all(|i| keys::is_under(subtree, text::key_at(bytes, lengths, i)))
 }
 
 // Whether the first count rows are well-formed. Bytes after a key or a value, and rows from the count on, do not
 // matter.
-pub fn check_rows<'a>(bytes: &'a RowBytes, lengths: &'a RowLengths, count: usize) -> Verdict
+#[tactic(auto, unfolding(base::specs::Checks::first_refusal))]
+pub fn check_rows<'a>(
+    bytes: &'a RowBytes,
+    lengths: &'a RowLengths,
+    count: usize,
+) -> Result<(), Refusal>
     ensures { result ≡ verdict (first_refusal (row_faults count bytes.now lengths.now)) }
 {
     if MAX_ROWS < count {
-        return Verdict::Refuse(Refusal::IllFormed);
+        return Err(Refusal::IllFormed);
     }
-    if !are_fitting(lengths, count) {
-        return Verdict::Refuse(Refusal::IllFormed);
+    if !are_fitting(lengths, count) || !are_sorted_keys(bytes, lengths, count) {
+        return Err(Refusal::IllFormed);
     }
-    if !are_sorted_keys(bytes, lengths, count) {
-        return Verdict::Refuse(Refusal::IllFormed);
-    }
-    Verdict::Accept
+    Ok(())
 }

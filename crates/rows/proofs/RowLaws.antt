@@ -8,30 +8,26 @@ use mathlib.Core.List.{List, [], ◌∷◌, ◌++◌, append_assoc, append-nil}
 use mathlib.Core.Option.{Option, none, some}
 use mathlib.Core.Path.{◌≡◌, refl, sym, ap, ◌∙◌}
 use lib.ListN.{length}
+use Rattle.std.specs.Ordering.{is_eq, ordering_reverse}
+use Rattle.std.specs.declared.cmp.Ordering.TheVariants.{Less, Equal, Greater}
+use Rattle.std.specs.declared.cmp.Ordering.{Ordering}
 use Rattle.base.proofs.ByteLaws.{and_left, and_right, same_eq, same_refl}
 use Rattle.base.specs.Bytes.{Bytes, same, every}
-use Rattle.key_order.proofs.OrderLaws.{order_self, order_flip, order_equal, order_trans, flipped}
+use Rattle.key_order.proofs.OrderLaws.{order_self, order_flip, order_equal, order_trans}
 use Rattle.key_order.specs.Order.{order_of}
-use Rattle.key_order.specs.declared.Order.TheVariants.{Less, Equal, Greater}
-use Rattle.key_order.specs.declared.Order.{Order}
 use Rattle.rows.specs.Rows.{Rows, set_row, remove_row, place, part, keep, has_key, held_under, Above, Sorted, map_rows, rising, is_less, keys_in}
 
 -- ---- the order of two keys
-abbrev is_equal : Order → Bool
-is_equal Less = false
-is_equal Equal = true
-is_equal Greater = false
-
-less_is : (o : Order) → is_less o ≡ true → o ≡ Less
+less_is : (o : Ordering) → is_less o ≡ true → o ≡ Less
 less_is Less e = refl
 less_is Equal e = cc
 less_is Greater e = cc
 
 -- keys are the same where neither is below the other
-pub same_by_order : (k j : Bytes) {o : Order} → order_of k j ≡ o → same k j ≡ is_equal o
+pub same_by_order : (k j : Bytes) {o : Ordering} → order_of k j ≡ o → same k j ≡ is_eq o
 same_by_order k j {o} e = go o e (same k j) refl
   where
-    go : (o : Order) → order_of k j ≡ o → (b : Bool) → same k j ≡ b → b ≡ is_equal o
+    go : (o : Ordering) → order_of k j ≡ o → (b : Bool) → same k j ≡ b → b ≡ is_eq o
     go Less f true g = let h = ap (order_of k) (same_eq k j g) in let i = order_self k in cc
     go Less f false g = refl
     go Equal f b g = sym g ∙ ap (same k) (sym (order_equal k j f)) ∙ same_refl k
@@ -47,7 +43,7 @@ module _ {A : Type 0} where
   pub above_equal : (j k : Bytes) (l : Rows A) → order_of j k ≡ Equal → Above k l → Above j l
   above_equal j k l e h = rw (order_equal j k e) h
 
-  above_place : (o : Order) (j : Bytes) (new r : Bytes × A) (l rest : Rows A) → order_of j new.0 ≡ Less
+  above_place : (o : Ordering) (j : Bytes) (new r : Bytes × A) (l rest : Rows A) → order_of j new.0 ≡ Less
       → Above j (r ∷ l) → Above j rest → Above j (place o new r l rest)
   above_place Less j new r l rest e h i = (e, h)
   above_place Equal j new r l rest e h i = (e, h.1)
@@ -63,17 +59,17 @@ module _ {A : Type 0} where
   sorted_set k a [] h = (tt, tt)
   sorted_set k a (r ∷ l) h = go (order_of k r.0) refl (sorted_set k a l h.1)
     where
-      go : (o : Order) → order_of k r.0 ≡ o → Sorted (set_row k a l) → Sorted (place o (k, a) r l (set_row k a l))
+      go : (o : Ordering) → order_of k r.0 ≡ o → Sorted (set_row k a l) → Sorted (place o (k, a) r l (set_row k a l))
       go Less e s = ((e, above_trans k r.0 l e h.0), h)
       go Equal e s = (above_equal k r.0 l e h.0, h.1)
-      go Greater e s = (above_set r.0 k a l (order_flip k r.0 ∙ ap flipped e) h.0, s)
+      go Greater e s = (above_set r.0 k a l (order_flip k r.0 ∙ ap ordering_reverse e) h.0, s)
 
   pub above_remove : (j k : Bytes) (l : Rows A) → Above j l → Above j (remove_row k l)
   unfolding remove_row
   above_remove j k [] h = tt
   above_remove j k (r ∷ l) h = go (order_of k r.0) (above_remove j k l h.1)
     where
-      go : (o : Order) → Above j (remove_row k l) → Above j (part o r l (remove_row k l))
+      go : (o : Ordering) → Above j (remove_row k l) → Above j (part o r l (remove_row k l))
       go Less i = h
       go Equal i = h.1
       go Greater i = (h.0, i)
@@ -83,7 +79,7 @@ module _ {A : Type 0} where
   sorted_remove k [] h = tt
   sorted_remove k (r ∷ l) h = go (order_of k r.0) (sorted_remove k l h.1)
     where
-      go : (o : Order) → Sorted (remove_row k l) → Sorted (part o r l (remove_row k l))
+      go : (o : Ordering) → Sorted (remove_row k l) → Sorted (part o r l (remove_row k l))
       go Less i = h
       go Equal i = h.1
       go Greater i = (above_remove r.0 k l h.0, i)
@@ -160,7 +156,7 @@ module _ {A : Type 0} where
   held_set_same k a [] = rw (same_refl k)
   held_set_same k a (r ∷ l) = go (order_of k r.0) refl (held_set_same k a l)
     where
-      go : (o : Order) → order_of k r.0 ≡ o → held_under k (set_row k a l) ≡ some a → held_under k (place o (k, a) r l (set_row k a l)) ≡ some a
+      go : (o : Ordering) → order_of k r.0 ≡ o → held_under k (set_row k a l) ≡ some a → held_under k (place o (k, a) r l (set_row k a l)) ≡ some a
       go Less e ih = rw (same_refl k)
       go Equal e ih = rw (same_refl k)
       go Greater e ih = rw (same_by_order k r.0 e) ih
@@ -170,7 +166,7 @@ module _ {A : Type 0} where
   held_set_other j k a [] e = rw e
   held_set_other j k a (r ∷ l) e = go (order_of k r.0) refl (held_set_other j k a l e)
     where
-      go : (o : Order) → order_of k r.0 ≡ o → held_under j (set_row k a l) ≡ held_under j l
+      go : (o : Ordering) → order_of k r.0 ≡ o → held_under j (set_row k a l) ≡ held_under j l
           → held_under j (place o (k, a) r l (set_row k a l)) ≡ cond (same j r.0) (some r.1) (held_under j l)
       go Less f ih = rw e
       go Equal f ih = rw (e, sym (ap (same j) (order_equal k r.0 f)) ∙ e)
@@ -181,7 +177,7 @@ module _ {A : Type 0} where
   held-remove-same k [] h = refl
   held-remove-same k (r ∷ l) h = go (order_of k r.0) refl (held-remove-same k l h.1)
     where
-      go : (o : Order) → order_of k r.0 ≡ o → held_under k (remove_row k l) ≡ none → held_under k (part o r l (remove_row k l)) ≡ none
+      go : (o : Ordering) → order_of k r.0 ≡ o → held_under k (remove_row k l) ≡ none → held_under k (part o r l (remove_row k l)) ≡ none
       go Less e ih = above_held k (r ∷ l) (e, above_trans k r.0 l e h.0)
       go Equal e ih = above_held k l (above_equal k r.0 l e h.0)
       go Greater e ih = rw (same_by_order k r.0 e) ih
@@ -191,7 +187,7 @@ module _ {A : Type 0} where
   held-remove_other j k [] e = refl
   held-remove_other j k (r ∷ l) e = go (order_of k r.0) refl (held-remove_other j k l e)
     where
-      go : (o : Order) → order_of k r.0 ≡ o → held_under j (remove_row k l) ≡ held_under j l
+      go : (o : Ordering) → order_of k r.0 ≡ o → held_under j (remove_row k l) ≡ held_under j l
           → held_under j (part o r l (remove_row k l)) ≡ cond (same j r.0) (some r.1) (held_under j l)
       go Less f ih = refl
       go Equal f ih = rw (sym (ap (same j) (order_equal k r.0 f)) ∙ e)
@@ -206,7 +202,7 @@ module _ {A : Type 0} where
       let b = and_right (test r.0) (every test (keys_in l)) e in
       go a b (order_of k r.0) (every-remove test k l b)
     where
-      go : test r.0 ≡ true → every test (keys_in l) ≡ true → (o : Order) → every test (keys_in (remove_row k l)) ≡ true
+      go : test r.0 ≡ true → every test (keys_in l) ≡ true → (o : Ordering) → every test (keys_in (remove_row k l)) ≡ true
           → every test (keys_in (part o r l (remove_row k l))) ≡ true
       go a b Less ih = rw (a, b)
       go a b Equal ih = b
@@ -229,7 +225,7 @@ module _ {A : Type 0} where
   set_remove k a [] h = refl
   set_remove k a (r ∷ l) h = go (order_of k r.0) refl (set_remove k a l h.1)
     where
-      go : (o : Order) → order_of k r.0 ≡ o → set_row k a (remove_row k l) ≡ set_row k a l
+      go : (o : Ordering) → order_of k r.0 ≡ o → set_row k a (remove_row k l) ≡ set_row k a l
           → set_row k a (part o r l (remove_row k l)) ≡ place o (k, a) r l (set_row k a l)
       go Less f ih = rw f
       go Equal f ih = set_least k a l (above_equal k r.0 l f h.0)
@@ -241,7 +237,7 @@ module _ {A : Type 0} where
   keep_set_in p k a [] e h = rw e
   keep_set_in p k a (r ∷ l) e h = go (order_of k r.0) refl (p r.0) refl (keep_set_in p k a l e h.1)
     where
-      go : (o : Order) → order_of k r.0 ≡ o → (b : Bool) → p r.0 ≡ b → keep p (set_row k a l) ≡ set_row k a (keep p l)
+      go : (o : Ordering) → order_of k r.0 ≡ o → (b : Bool) → p r.0 ≡ b → keep p (set_row k a l) ≡ set_row k a (keep p l)
           → keep p (place o (k, a) r l (set_row k a l)) ≡ set_row k a (cond b (r ∷ keep p l) (keep p l))
       go Less f true g ih = rw (e, g, f)
       go Less f false g ih = rw (e, g) (sym (set_least k a (keep p l) (above_keep p k l (above_trans k r.0 l f h.0))))
@@ -255,7 +251,7 @@ module _ {A : Type 0} where
   keep_set_out p k a [] e = rw e
   keep_set_out p k a (r ∷ l) e = go (order_of k r.0) refl (keep_set_out p k a l e)
     where
-      go : (o : Order) → order_of k r.0 ≡ o → keep p (set_row k a l) ≡ keep p l
+      go : (o : Ordering) → order_of k r.0 ≡ o → keep p (set_row k a l) ≡ keep p l
           → keep p (place o (k, a) r l (set_row k a l)) ≡ cond (p r.0) (r ∷ keep p l) (keep p l)
       go Less f ih = rw e
       go Equal f ih = rw (e, sym (ap p (order_equal k r.0 f)) ∙ e)
@@ -266,7 +262,7 @@ module _ {A : Type 0} where
   keep-remove_in p k [] h = refl
   keep-remove_in p k (r ∷ l) h = go (order_of k r.0) refl (p r.0) refl (keep-remove_in p k l h.1)
     where
-      go : (o : Order) → order_of k r.0 ≡ o → (b : Bool) → p r.0 ≡ b → keep p (remove_row k l) ≡ remove_row k (keep p l)
+      go : (o : Ordering) → order_of k r.0 ≡ o → (b : Bool) → p r.0 ≡ b → keep p (remove_row k l) ≡ remove_row k (keep p l)
           → keep p (part o r l (remove_row k l)) ≡ remove_row k (cond b (r ∷ keep p l) (keep p l))
       go Less f true g ih = rw (g, f)
       go Less f false g ih = rw g (sym (remove-least k (keep p l) (above_keep p k l (above_trans k r.0 l f h.0))))
@@ -280,7 +276,7 @@ module _ {A : Type 0} where
   keep-remove-out p k [] e = refl
   keep-remove-out p k (r ∷ l) e = go (order_of k r.0) refl (keep-remove-out p k l e)
     where
-      go : (o : Order) → order_of k r.0 ≡ o → keep p (remove_row k l) ≡ keep p l
+      go : (o : Ordering) → order_of k r.0 ≡ o → keep p (remove_row k l) ≡ keep p l
           → keep p (part o r l (remove_row k l)) ≡ cond (p r.0) (r ∷ keep p l) (keep p l)
       go Less f ih = refl
       go Equal f ih = rw (sym (ap p (order_equal k r.0 f)) ∙ e)
@@ -309,8 +305,8 @@ module _ {A : Type 0} where
       more true = refl
       more false = refl
 
-      go : (o : Order) → order_of k r.0 ≡ o → length (set_row k a l) ≡ cond (has_key k l) (length l) (suc (length l))
-          → length (place o (k, a) r l (set_row k a l)) ≡ cond (is_equal o || has_key k l) (suc (length l)) (suc (suc (length l)))
+      go : (o : Ordering) → order_of k r.0 ≡ o → length (set_row k a l) ≡ cond (has_key k l) (length l) (suc (length l))
+          → length (place o (k, a) r l (set_row k a l)) ≡ cond (is_eq o || has_key k l) (suc (length l)) (suc (suc (length l)))
       go Less e ih = rw (above_has_key k l (above_trans k r.0 l e h.0))
       go Equal e ih = refl
       go Greater e ih = ap suc ih ∙ more (has_key k l)
@@ -320,7 +316,7 @@ module _ {A : Type 0} where
   length-remove k [] = omega arith
   length-remove k (r ∷ l) = go (order_of k r.0) (length-remove k l)
     where
-      go : (o : Order) → length (remove_row k l) ≤ length l → length (part o r l (remove_row k l)) ≤ suc (length l)
+      go : (o : Ordering) → length (remove_row k l) ≤ length l → length (part o r l (remove_row k l)) ≤ suc (length l)
       go Less ih = omega arith
       go Equal ih = omega arith
       go Greater ih = omega arith
@@ -347,7 +343,7 @@ module _ {A : Type 0} where
   pub set_last : (k : Bytes) (a : A) (l : Rows A) → Below l k → set_row k a l ≡ l ++ ((k, a) ∷ [])
   unfolding set_row
   set_last k a [] h = refl
-  set_last k a (r ∷ l) h = rw (order_flip r.0 k ∙ ap flipped h.0) (ap (λ (t : Rows A). r ∷ t) (set_last k a l h.1))
+  set_last k a (r ∷ l) h = rw (order_flip r.0 k ∙ ap ordering_reverse h.0) (ap (λ (t : Rows A). r ∷ t) (set_last k a l h.1))
 
   -- every key of the first list is below every key of the second
   abbrev Cross : Rows A → Rows A → Type 0
@@ -383,7 +379,7 @@ module _ {A B : Type 0} where
   map_set f k a [] = refl
   map_set f k a (r ∷ l) = go (order_of k r.0) (map_set f k a l)
     where
-      go : (o : Order) → map_rows f (set_row k a l) ≡ set_row k (f a) (map_rows f l)
+      go : (o : Ordering) → map_rows f (set_row k a l) ≡ set_row k (f a) (map_rows f l)
           → map_rows f (place o (k, a) r l (set_row k a l)) ≡ place o (k, f a) (r.0, f r.1) (map_rows f l) (set_row k (f a) (map_rows f l))
       go Less ih = refl
       go Equal ih = refl
@@ -394,7 +390,7 @@ module _ {A B : Type 0} where
   map-remove f k [] = refl
   map-remove f k (r ∷ l) = go (order_of k r.0) (map-remove f k l)
     where
-      go : (o : Order) → map_rows f (remove_row k l) ≡ remove_row k (map_rows f l)
+      go : (o : Ordering) → map_rows f (remove_row k l) ≡ remove_row k (map_rows f l)
           → map_rows f (part o r l (remove_row k l)) ≡ part o (r.0, f r.1) (map_rows f l) (remove_row k (map_rows f l))
       go Less ih = refl
       go Equal ih = refl

@@ -1,17 +1,17 @@
 -- A map as a list of rows, each a key and what is held under it, in the order of the keys.
 use Rattle.std.specs.Prelude.{Bool, true, false, cond, ◌&&◌, ◌||◌, List, [], ◌∷◌, ◌≡◌}
 use Rattle.std.proofs.Math.Option.{Option, none, some}
+use Rattle.std.specs.declared.cmp.Ordering.TheVariants.{Less, Equal, Greater}
+use Rattle.std.specs.declared.cmp.Ordering.{Ordering}
 use Rattle.base.specs.Bytes.{Bytes, same}
 use Rattle.key_order.specs.Order.{order_of}
-use Rattle.key_order.specs.declared.Order.TheVariants.{Less, Equal, Greater}
-use Rattle.key_order.specs.declared.Order.{Order}
 
 abbrev pub Rows : Type 0 → Type 0
 Rows A = List (Bytes × A)
 
 module _ {A : Type 0} where
   -- a row set before r, in the place of r, or among the rows behind it: by how its key stands to that of r
-  abbrev pub place : Order → Bytes × A → Bytes × A → Rows A → Rows A → Rows A
+  abbrev pub place : Ordering → Bytes × A → Bytes × A → Rows A → Rows A → Rows A
   place Less new r l rest = new ∷ r ∷ l
   place Equal new r l rest = new ∷ l
   place Greater new r l rest = r ∷ rest
@@ -22,7 +22,7 @@ module _ {A : Type 0} where
   set_row k a (r ∷ l) = place (order_of k r.0) (k, a) r l (set_row k a l)
 
   -- the rows from r on without a key: r is behind it, has it, or is before it
-  abbrev pub part : Order → Bytes × A → Rows A → Rows A → Rows A
+  abbrev pub part : Ordering → Bytes × A → Rows A → Rows A → Rows A
   part Less r l rest = r ∷ l
   part Equal r l rest = l
   part Greater r l rest = r ∷ rest
@@ -67,7 +67,7 @@ unfoldable pub map_rows : {A B : Type 0} → (A → B) → Rows A → Rows B
 map_rows f [] = []
 map_rows f (r ∷ l) = (r.0, f r.1) ∷ map_rows f l
 
-abbrev pub is_less : Order → Bool
+abbrev pub is_less : Ordering → Bool
 is_less Less = true
 is_less Equal = false
 is_less Greater = false

@@ -6,13 +6,17 @@ use mathlib.Core.List.{List, [], ◌∷◌, ◌++◌}
 use mathlib.Core.Path.{◌≡◌, refl, sym, ap, ◌∙◌}
 use lib.Dec.{eqb, ltb, leb-suc-suc}
 use lib.ListN.{length, get_or, take, drop}
-use lib.Seq.{length-take-le, drop-nil}
-use borrow.Author.Tests.{lt-ltb}
+use lib.Seq.{drop-nil}
+use borrow.Author.Tests.{lt-ltb, lt-leb, eq-eqb, ne_eqb}
+use Rattle.std.proofs.Common.{◌≢◌, Option, Some, None, MatchOption, unwrap_or, slice_get}
+use Rattle.std.specs.List.{AllWithin, HoldsAt, slice_split, onto_first}
+use Rattle.std.specs.Option.{option_map}
+use Rattle.std.proofs.lemmas.Option.{unwrap_or-slice_get}
+use Rattle.std.proofs.lemmas.Iterator.{index_from_first}
 use Rattle.base.proofs.ByteLaws.{or_left, or_right}
-use Rattle.base.proofs.CutLaws.{cut_at, uncut, before-behind, before_free, pieces_free, pieces-cut, glue, glue_pieces}
+use Rattle.base.proofs.CutLaws.{before-behind, before_free, pieces_free, pieces-cut, glue, glue_pieces}
 use Rattle.base.specs.Bytes.{Bytes, holds}
-use Rattle.base.specs.Cuts.{found_of, before, behind, pieces}
-use Rattle.base.specs.declared.bytes.Position.TheVariants.{At, Nowhere}
+use Rattle.base.specs.Cuts.{before, behind, on_first, pieces}
 use Rattle.script.specs.Lines.{bar, barred, line_fields, field_at, from_field}
 
 -- ---- the first place of a byte
@@ -48,7 +52,7 @@ module _ (b : ℕ) where
       go true h = refl
       go false h = h
 
-  pub before_shorter : (s : Bytes) → ltb (length (before b s)) (length s) ≡ holds b s
+  before_shorter : (s : Bytes) → ltb (length (before b s)) (length s) ≡ holds b s
   unfolding before holds
   before_shorter [] = refl
   before_shorter (x ∷ s) = go (eqb x b) (before_shorter s)
@@ -57,6 +61,13 @@ module _ (b : ℕ) where
           → ltb (length (cond t [] (x ∷ before b s))) (suc (length s)) ≡ (t || holds b s)
       go true h = lt-ltb 0 (suc (length s)) (omega arith)
       go false h = leb-suc-suc (suc (length (before b s))) (length s) ∙ h
+
+  -- whether b is there, by how many bytes are before it
+  pub before_all_free : (s : Bytes) → length (before b s) ≡ length s → holds b s ≡ false
+  before_all_free s h = sym (before_shorter s) ∙ lt-leb (suc (length (before b s))) (length s) (omega arith)
+
+  pub before_less_holds : (s : Bytes) → length (before b s) < length s → holds b s ≡ true
+  before_less_holds s h = sym (before_shorter s) ∙ lt-ltb (length (before b s)) (length s) h
 
   -- what is behind the first b is shorter than all
   pub behind_shorter : (s : Bytes) → holds b s ≡ true → length (behind b s) < length s
@@ -69,17 +80,27 @@ module _ (b : ℕ) where
       go true h ih = omega arith
       go false h ih = omega (arith, ih h)
 
-  pub place_found : (s : Bytes) (i : ℕ) → At i ≡ found_of b s → (i ≡ length (before b s)) × (i ≤ length s)
-  place_found s i e =
-      let c = cut_at b s i e in
-      (sym (ap length c.front ∙ length-take-le i s (omega (arith, c.below))), omega (arith, c.below))
+  pub before_within : (s : Bytes) → length (before b s) ≤ length s
+  unfolding before
+  before_within [] = omega arith
+  before_within (x ∷ s) = go (eqb x b) (before_within s)
+    where
+      go : (t : Bool) → length (before b s) ≤ length s → length (cond t [] (x ∷ before b s)) ≤ suc (length s)
+      go true h = omega arith
+      go false h = omega arith
 
-  pub place_nowhere : (s : Bytes) → Nowhere ≡ found_of b s → (length s ≡ length (before b s)) × (length s ≤ length s)
-  place_nowhere s e = (rw (before_all s (uncut b s e).free), omega arith)
+  -- the place that a search finds, or else the number of all bytes
+  pub place_is : (s : Bytes) (o : Option ℕ) → MatchOption o (AllWithin (λ x. x ≢ b) s 0 (length s)) (λ i. (i < length s) × HoldsAt (λ x. x ≡ b) s i × AllWithin (λ x. x ≢ b) s 0 i)
+      → length (before b s) ≡ unwrap_or o (length s)
+  unfolding before
+  place_is =
+      index_from_first (λ s. length (before b s)) (λ x. x ≡ b) (λ x. x ≢ b) refl
+      (λ x s e. rw (eq-eqb x b e))
+      (λ x s e. rw (ne_eqb x b e) (omega arith))
 
--- what is left of a line behind its first bar, as the code finds it
-pub left_shorter : {t : Bool} {next : Bytes} (rest : Bytes) → t ≡ holds bar rest → t ≡ true → next ≡ behind bar rest → length next < length rest
-left_shorter rest e h g = rw g (behind_shorter bar rest (sym e ∙ h))
+-- what is left of a line behind its first bar
+pub left_shorter : {next : Bytes} (rest : Bytes) → holds bar rest ≡ true → next ≡ behind bar rest → length next < length rest
+left_shorter rest h e = rw e (behind_shorter bar rest h)
 
 -- ---- fields
 pub fields-more : (s : Bytes) → holds bar s ≡ true → line_fields s ≡ before bar s ∷ line_fields (behind bar s)
@@ -98,53 +119,59 @@ from_first : (s : Bytes) → from_field 0 s ≡ s
 unfolding from_field
 from_first s = line_glue (line_fields s) ∙ glue_pieces bar s
 
+-- a line of no bytes
+from_none : (k : ℕ) → from_field k [] ≡ []
+unfolding from_field pieces
+from_none zero = refl
+from_none (suc k) = rw (drop-nil {A = Bytes} k)
+
 -- one field less
 from_turn : (k : ℕ) (s : Bytes) → from_field (suc k) s ≡ from_field k (behind bar s)
-unfolding from_field pieces
+unfolding from_field
 from_turn k s = go (holds bar s) refl
   where
-    empty : (j : ℕ) → barred (drop j ([] ∷ [])) ≡ []
-    empty zero = refl
-    empty (suc j) = rw (drop-nil {A = Bytes} j)
-
     go : (t : Bool) → holds bar s ≡ t → barred (drop (suc k) (line_fields s)) ≡ barred (drop k (line_fields (behind bar s)))
     go true e = rw (fields-more s e)
-    go false e = rw (fields_last s e, behind_none bar s e, drop-nil {A = Bytes} k) (sym (empty k))
+    go false e = rw (fields_last s e, behind_none bar s e, drop-nil {A = Bytes} k) (sym (from_none k))
 
-field_turn : (k : ℕ) (s : Bytes) → field_at (suc k) s ≡ field_at k (behind bar s)
-unfolding field_at pieces
-field_turn k s = go (holds bar s) refl
+-- the pieces are what the library splits the bytes into
+pieces_split : (sep : ℕ) (s : Bytes) → slice_split (λ b. eqb b sep) s ≡ pieces sep s
+unfolding pieces
+pieces_split sep [] = refl
+pieces_split sep (b ∷ s) = rw (pieces_split sep s) (go (eqb b sep) (pieces sep s))
   where
-    empty : (j : ℕ) → get_or ([] ∷ []) j [] ≡ get_or {A = Bytes} [] j []
-    empty zero = refl
-    empty (suc j) = refl
+    go : (t : Bool) (ps : List Bytes) → cond t ([] ∷ ps) (onto_first b ps) ≡ cond t ([] ∷ ps) (on_first b ps)
+    go true ps = refl
+    go false [] = refl
+    go false (p ∷ ps) = refl
 
-    go : (t : Bool) → holds bar s ≡ t → get_or (line_fields s) (suc k) [] ≡ get_or (line_fields (behind bar s)) k []
-    go true e = rw (fields-more s e)
-    go false e = rw (fields_last s e, behind_none bar s e) (sym (empty k))
-
-field_first : (s : Bytes) → field_at 0 s ≡ before bar s
+-- field k, where v reads the bytes of what was found among the pieces, or of what is given where nothing was found
+pub field_found : {A : Type 0} (v : A → Bytes) (s : Bytes) (k : ℕ) (o : Option A) (d : A) → v d ≡ []
+    → option_map v o ≡ slice_get (slice_split (λ b. eqb b bar) s) k → v (unwrap_or o d) ≡ field_at k s
 unfolding field_at
-field_first s = go (holds bar s) refl
+field_found {A = A} v s k o d e h =
+    go o ∙ ap (λ u. unwrap_or u []) h ∙ unwrap_or-slice_get (slice_split (λ b. eqb b bar) s) k []
+    ∙ ap (λ ps. get_or ps k []) (pieces_split bar s)
   where
-    go : (t : Bool) → holds bar s ≡ t → get_or (line_fields s) 0 [] ≡ before bar s
-    go true e = rw (fields-more s e)
-    go false e = rw (fields_last s e, before_all bar s e)
-
--- field k is at the front of the line without k fields
-pub field_is : (k : ℕ) (s : Bytes) → before bar (from_field k s) ≡ field_at k s
-field_is zero s = ap (before bar) (from_first s) ∙ sym (field_first s)
-field_is (suc k) s = ap (before bar) (from_turn k s) ∙ field_is k (behind bar s) ∙ sym (field_turn k s)
+    go : (o : Option A) → v (unwrap_or o d) ≡ unwrap_or (option_map v o) []
+    go None = e
+    go (Some x) = refl
 
 -- ---- a walk over bars, i of which are passed; rest is what is left of the line
 pub bars_begin : (k : ℕ) (line : Bytes) → from_field k line ≡ from_field (k - 0) line
 bars_begin k line = ap (λ (j : ℕ). from_field j line) (omega arith)
 
 module _ (k i : ℕ) (x rest : Bytes) (h : x ≡ from_field (k - i) rest) where
-  pub bars_turn : (next : Bytes) → i < k → next ≡ behind bar rest → x ≡ from_field (k - (i + 1)) next
-  bars_turn next l e =
+  pub bars_turn : {next : Bytes} → i < k → next ≡ behind bar rest → x ≡ from_field (k - (i + 1)) next
+  bars_turn l e =
       let z : k - i ≡ suc (k - (i + 1)) = omega arith in
       h ∙ rw (z, e) (from_turn (k - (i + 1)) rest)
+
+  -- where no bar is left
+  pub bars_none : i < k → holds bar rest ≡ false → [] ≡ x
+  bars_none l e =
+      let z : k - i ≡ suc (k - (i + 1)) = omega arith in
+      sym (h ∙ rw z (from_turn (k - (i + 1)) rest ∙ rw (behind_none bar rest e) (from_none (k - (i + 1)))))
 
   pub bars_done : k ≤ i → rest ≡ x
   bars_done l =

@@ -1,15 +1,14 @@
 -- Laws of decimal numbers that are cut off at the largest number. Assumes nothing.
-use Prim.Native.Nat.{ℕ, suc, ◌+◌, ◌-◌, ◌*◌, ◌^◌, min, ◌≤◌, ◌<◌}
+use Prim.Native.Nat.{ℕ, ◌+◌, ◌-◌, ◌*◌, ◌^◌, min, ◌≤◌, ◌<◌}
 use native.Mathlib.Nat.{pow-succ', mul_assoc, add-mul, mul-le-mul_left, one-le-pow, min-eq_left, min-eq_right, add_assoc}
-use native.Mathlib.Numerals.{add-one}
 use native.Mathlib.Omega.{arith}
 use mathlib.Core.Bool.{Bool, true, false, cond}
-use mathlib.Core.List.{List, ◌∷◌}
+use mathlib.Core.List.{List, [], ◌∷◌}
 use mathlib.Core.Path.{◌≡◌, refl, sym, ◌∙◌}
 use lib.Dec.{leb}
-use lib.ListN.{length, get_or, drop, drop_of_length-le}
-use lib.Seq.{drop-cons}
-use borrow.Author.Tests.{leb-true, leb-false, le-leb, lt-leb}
+use lib.ListN.{length}
+use borrow.Author.Tests.{leb-true, leb-false}
+use Rattle.std.specs.Prelude.{fold}
 use Rattle.base.specs.Bytes.{Bytes}
 use Rattle.base.specs.Output.{largest}
 use Rattle.properties.specs.Decimals.{is_digit}
@@ -17,14 +16,12 @@ use Rattle.script.specs.Numbers.{digits_in, decimal, text_number, with_digit, wi
 
 -- ---- one byte more
 module _ (n b : ℕ) where
-  pub with_number : {d r : ℕ} → 48 ≤ b → b ≤ 57 → d ≡ b - 48 → r ≡ with_digit n d → r ≡ with_byte n b
-  with_number h k e f = f ∙ rw (e, le-leb 48 b h, le-leb b 57 k)
-
-  pub with_low : b < 48 → n ≡ with_byte n b
-  with_low h = rw (lt-leb 48 b h)
-
-  pub with_high : 57 < b → n ≡ with_byte n b
-  with_high h = rw (le-leb 48 b (omega arith), lt-leb b 57 h)
+  with-bound : n ≤ largest → with_byte n b ≤ largest
+  with-bound h = go (is_digit b)
+    where
+      go : (t : Bool) → cond t (with_digit n (b - 48)) n ≤ largest
+      go true = omega arith
+      go false = h
 
 -- ---- all bytes
 -- the number of some digits behind a number
@@ -50,21 +47,20 @@ from_digit n d ds =
     rw (add-mul (n * 10) d p, mul_assoc n 10 p, add_assoc (n * (10 * p)) (d * p) (decimal ds)) in
     rw (pow-succ' 10 (length ds), e) (cut_off (n * 10 + d) p (decimal ds) (one-le-pow (length ds) 10 (omega arith)))
 
-pub number-begin : (s : Bytes) → text_number s ≡ number_behind 0 (digits_in s)
+-- one byte more
+from_byte : (n b : ℕ) (s : Bytes) → number_behind n (digits_in (b ∷ s)) ≡ number_behind (with_byte n b) (digits_in s)
+unfolding digits_in
+from_byte n b s = go (is_digit b)
+  where
+    go : (t : Bool) → number_behind n (cond t ((b - 48) ∷ digits_in s) (digits_in s)) ≡ number_behind (cond t (with_digit n (b - 48)) n) (digits_in s)
+    go true = from_digit n (b - 48) (digits_in s)
+    go false = refl
+
+folded : (n : ℕ) (s : Bytes) → n ≤ largest → fold with_byte n s ≡ number_behind n (digits_in s)
+unfolding digits_in decimal
+folded n [] h = omega arith
+folded n (b ∷ s) h = folded (with_byte n b) s (with-bound n b h) ∙ sym (from_byte n b s)
+
+pub number_folded : (s : Bytes) → fold with_byte 0 s ≡ text_number s
 unfolding text_number
-number-begin s = omega arith
-
--- bytes read from the front, i being passed whose number is n
-module _ (s : Bytes) (i n x : ℕ) (h : x ≡ number_behind n (digits_in (drop i s))) where
-  pub number_turn : (m : ℕ) → i < length s → m ≡ with_byte n (get_or s i 0) → x ≡ number_behind m (digits_in (drop (i + 1) s))
-  unfolding digits_in
-  number_turn m l e = h ∙ rw (add-one, drop-cons s i 0 l, e) (go (is_digit (get_or s i 0)))
-    where
-      go : (t : Bool) → number_behind n (cond t ((get_or s i 0 - 48) ∷ digits_in (drop (suc i) s)) (digits_in (drop (suc i) s)))
-          ≡ number_behind (cond t (with_digit n (get_or s i 0 - 48)) n) (digits_in (drop (suc i) s))
-      go true = from_digit n (get_or s i 0 - 48) (digits_in (drop (suc i) s))
-      go false = refl
-
-  pub number_done : length s ≤ i → n ≤ largest → n ≡ x
-  unfolding digits_in decimal
-  number_done l k = sym (h ∙ rw (drop_of_length-le s {i = i} l) (omega arith))
+number_folded s = folded 0 s (omega arith) ∙ omega arith

@@ -9,13 +9,13 @@ use mathlib.Core.Path.{◌≡◌, refl, sym, ap, ◌∙◌}
 use lib.Dec.{eqb, leb}
 use lib.ListN.{length, get_or, take, drop, set, length-drop}
 use lib.Seq.{length-take-le, take_all, drop-cons, paste, paste-zero, paste-suc}
-use borrow.Author.Tests.{eqb-true, eqb-false, leb-true, le-leb, lt-leb}
+use borrow.Author.Tests.{eqb-true, eqb-false, le-leb, lt-leb, ne_eqb}
 use Rattle.base.proofs.ByteLaws.{and_left, and_right}
 use Rattle.base.proofs.OutputLaws.{wrote}
 use Rattle.base.specs.Bytes.{Bytes, prefix, holds}
 use Rattle.base.specs.Cuts.{before}
 use Rattle.base.specs.Output.{put, Written}
-use Rattle.script.specs.Texts.{digit_of, octet_of, escape, text_bytes, text_in, escaped, front_byte, front_width}
+use Rattle.script.specs.Texts.{digit_of, octet_of, text_bytes, text_in, escaped, front_byte, front_width}
 
 -- ---- digits
 -- the digits by ranges, and a test of each byte
@@ -45,8 +45,8 @@ module _ (b : ℕ) (h : b < 256) where
   pub digit_number : 48 ≤ b → b ≤ 57 → b - 48 ≡ digit_of b
   digit_number k l = rw (le-leb 48 b k, le-leb b 57 l) at (digit_is b h)
 
-  pub digit_letter : 97 ≤ b → b ≤ 102 → b - 87 ≡ digit_of b
-  digit_letter k l = rw (le-leb 48 b (omega arith), lt-leb b 57 (omega arith), le-leb 97 b k, le-leb b 102 l) at (digit_is b h)
+  pub digit_letter : {d : ℕ} → 97 ≤ b → b ≤ 102 → d ≡ b - 87 → d ≡ digit_of b
+  digit_letter k l e = e ∙ rw (le-leb 48 b (omega arith), lt-leb b 57 (omega arith), le-leb 97 b k, le-leb b 102 l) at (digit_is b h)
 
   pub digit_low : b < 48 → 0 ≡ digit_of b
   digit_low k = rw (lt-leb 48 b k, lt-leb 97 b (omega arith)) at (digit_is b h)
@@ -58,17 +58,26 @@ module _ (b : ℕ) (h : b < 256) where
   digit_high k = rw (le-leb 48 b (omega arith), lt-leb b 57 (omega arith), le-leb 97 b (omega arith), lt-leb b 102 k) at (digit_is b h)
 
 -- ---- the front of a text
-pub short_unescaped : (s : Bytes) → length s < 4 → escaped s ≡ false
-unfolding escaped
-short_unescaped s h = rw (lt-leb 4 (length s) h)
+pub escaped_here : (s : Bytes) → 4 ≤ length s → get_or s 0 0 ≡ 92 → get_or s 1 0 ≡ 120 → escaped s ≡ true
+unfolding escaped prefix
+escaped_here [] h e f = absurd (omega arith)
+escaped_here (a ∷ []) h e f = absurd (omega arith)
+escaped_here (a ∷ b ∷ s) h e f = rw (le-leb 4 (length (a ∷ b ∷ s)) h, e, f)
 
-pub escaped_by_prefix : (s : Bytes) → 4 ≤ length s → prefix escape s ≡ escaped s
+pub unescaped_short : (s : Bytes) → length s < 4 → escaped s ≡ false
 unfolding escaped
-escaped_by_prefix s h = rw (le-leb 4 (length s) h)
+unescaped_short s h = rw (lt-leb 4 (length s) h)
 
-pub escaped-long : (s : Bytes) → escaped s ≡ true → 4 ≤ length s
-unfolding escaped
-escaped-long s h = leb-true 4 (length s) (and_left (leb 4 (length s)) (prefix escape s) h)
+pub unescaped_first : (s : Bytes) → 4 ≤ length s → (get_or s 0 0 ≡ 92 → ⊥) → escaped s ≡ false
+unfolding escaped prefix
+unescaped_first [] h e = absurd (omega arith)
+unescaped_first (a ∷ s) h e = rw (le-leb 4 (length (a ∷ s)) h, ne_eqb 92 a (λ f. e (sym f)))
+
+pub unescaped_second : (s : Bytes) → 4 ≤ length s → get_or s 0 0 ≡ 92 → (get_or s 1 0 ≡ 120 → ⊥) → escaped s ≡ false
+unfolding escaped prefix
+unescaped_second [] h e f = absurd (omega arith)
+unescaped_second (a ∷ []) h e f = absurd (omega arith)
+unescaped_second (a ∷ b ∷ s) h e f = rw (le-leb 4 (length (a ∷ b ∷ s)) h, e, ne_eqb 120 b (λ g. f (sym g)))
 
 -- the bytes of a text are the one at its front and those of the rest
 pub bytes_turn : (s : Bytes) → 0 < length s → text_bytes s ≡ front_byte s ∷ text_bytes (drop (front_width s) s)
@@ -90,11 +99,6 @@ unfolding text_bytes
 no_bytes [] h = refl
 no_bytes (b ∷ s) h = absurd (omega arith)
 
-pub first_none : (s : Bytes) → length s ≡ 0 → 0 ≡ front_byte s
-unfolding escaped
-first_none [] h = refl
-first_none (b ∷ s) h = absurd (omega arith)
-
 -- ---- text decoded from the front: of the text s, rest is left, and at bytes are put into the output d, which is now o
 pub record Decoding (s d rest : Bytes) (at : ℕ) (o : Bytes) : Type 0 where
   pub left : drop at (text_bytes s) ≡ text_bytes rest
@@ -113,15 +117,15 @@ module _ {s d rest : Bytes} {at : ℕ} {o : Bytes} (c : Decoding s d rest at o) 
       let l : length (take at (text_bytes s)) ≡ at = length-take-le at (text_bytes s) c.passed in
       rw e (wrote (rw l (omega (arith, c.room))) (rw l (sym (zero-add at))) (c.out ∙ rw l))
 
-  pub decode_full : at ≡ length d → Written d 0 (text_in d s) at o
-  decode_full e = written (rw e)
+  pub decode_full : {n : ℕ} → length d ≤ at → n ≡ at → Written d 0 (text_in d s) n o
+  decode_full h e = let z : at ≡ length d = omega (arith, c.room) in rw e (written (rw z))
 
   pub decode_done : length rest ≤ 0 → Written d 0 (text_in d s) at o
   decode_done h =
       let z : length (text_bytes s) ≤ at = omega (arith, length-drop at (text_bytes s), ap length c.left, no_bytes rest h) in
       written (take_all (length d) (text_bytes s) (omega (arith, c.room)) ∙ sym (take_all at (text_bytes s) z))
 
-  module _ (h : 0 < length rest) (k : at < length d) where
+  module _ (k : at < length d) (h : 0 < length rest) where
     next_left : drop at (text_bytes s) ≡ front_byte rest ∷ text_bytes (drop (front_width rest) rest)
     next_left = c.left ∙ bytes_turn rest h
 
@@ -134,10 +138,10 @@ module _ {s d rest : Bytes} {at : ℕ} {o : Bytes} (c : Decoding s d rest at o) 
     next_byte : front_byte rest ≡ get_or (text_bytes s) at 0
     next_byte = cc next_cut
 
-    pub decode_turn : (b n : ℕ) (next : Bytes) → b ≡ front_byte rest → n ≡ front_width rest → next ≡ drop n rest → Decoding s d next (at + 1) (set o at b)
-    decode_turn b n next e f g =
+    pub decode_turn : {b : ℕ} {next : Bytes} → b ≡ front_byte rest → next ≡ drop (front_width rest) rest → Decoding s d next (at + 1) (set o at b)
+    decode_turn e f =
         record {
-          left = rw (add-one at, g, f) (cc next_cut);
+          left = rw (add-one at, f) (cc next_cut);
           passed = omega (arith, inside);
           room = omega arith;
           out =
@@ -145,10 +149,3 @@ module _ {s d rest : Bytes} {at : ℕ} {o : Bytes} (c : Decoding s d rest at o) 
               (ap (λ (i : ℕ). set (paste d 0 (text_bytes s) at) i (get_or (text_bytes s) at 0)) (sym (zero-add at))
               ∙ paste-suc d 0 (text_bytes s) at 0 (omega arith) inside);
         }
-
-    pub decode_less : (n : ℕ) (next : Bytes) → n ≡ front_width rest → next ≡ drop n rest → length next < length rest
-    decode_less n next f g = rw (g, f, length-drop) (go (escaped rest))
-      where
-        go : (t : Bool) → length rest - cond t 4 1 < length rest
-        go true = omega arith
-        go false = omega arith

@@ -1,32 +1,24 @@
 // The fields of a line, between bars, and numbers in them.
-ghost use Rattle.std.specs.Prelude.{◌≡◌, ◌<◌};
+ghost use Rattle.std.specs.Prelude.{◌≡◌, true, false, IfNone, IfSome};
 ghost use Rattle.base.specs.Bytes.{holds};
 ghost use Rattle.base.specs.Cuts.{before, behind};
 ghost use Rattle.script.specs.Lines.{bar, field_at, from_field};
-ghost use Rattle.script.specs.Numbers.{text_number, with_digit, with_byte};
+ghost use Rattle.script.specs.Numbers.{text_number, with_byte};
 
 use crate::text;
-use base::{bytes, octets};
 
-// Whether a line has a bar.
-pub(crate) fn has_bar(line: &[u8]) -> bool
-    ensures { result ≡ holds bar line.now }
+// What is before the first bar of a line, and what is behind it; nothing where the line has no bar.
+pub(crate) fn cut(line: &[u8]) -> Option<(&[u8], &[u8])>
+    ensures none { IfNone result (holds bar line.now ≡ false) }
+    ensures some { IfSome result (λ p. holds bar line.now ≡ true) }
+    ensures front { IfSome result (λ p. p.0.now ≡ before bar line.now) }
+    ensures rest { IfSome result (λ p. p.1.now ≡ behind bar line.now) }
 {
-    text::place(line, b'|') < line.len()
-}
-
-// What is before the first bar of a line; all of it where it has none.
-pub(crate) fn before_bar(line: &[u8]) -> &[u8]
-    ensures { result.now ≡ before bar line.now }
-{
-    bytes::front(line, text::place(line, b'|'))
-}
-
-// What is behind the first bar of a line; no bytes where it has none.
-pub(crate) fn behind_bar(line: &[u8]) -> &[u8]
-    ensures { result.now ≡ behind bar line.now }
-{
-    bytes::behind(line, text::place(line, b'|') + 1)
+    let n = text::place(line, b'|');
+    if n == line.len() {
+        return None;
+    }
+    Some((&line[..n], &line[n + 1..]))
 }
 
 // What is behind k bars of a line; no bytes where it has fewer.
@@ -34,11 +26,11 @@ pub fn behind_bars(line: &[u8], k: usize) -> &[u8]
     ensures { result.now ≡ from_field k line.now }
 {
     let mut rest = line;
-    let mut passed = 0;
-    while passed < k {
-        let next = behind_bar(rest);
-        rest = next;
-        passed += 1;
+    for _ in 0..k {
+        let Some((_, behind)) = cut(rest) else {
+            return b"";
+        };
+        rest = behind;
     }
     rest
 }
@@ -47,29 +39,15 @@ pub fn behind_bars(line: &[u8], k: usize) -> &[u8]
 pub fn field(line: &[u8], k: usize) -> &[u8]
     ensures { result.now ≡ field_at k line.now }
 {
-    before_bar(behind_bars(line, k))
+    line.split(|b| *b == b'|').nth(k).unwrap_or(b"")
 }
 
-// The largest number.
-const MOST: u64 = 18446744073709551615;
-
-// A number with one digit more, or the largest number where that is larger.
-fn with_digit(n: u64, digit: u64) -> u64
-    requires { digit < 10 }
-    ensures { result ≡ with_digit n digit }
-{
-    if (MOST - digit) / 10 < n {
-        return MOST;
-    }
-    n * 10 + digit
-}
-
-// A number with one byte more. What is no digit is passed over.
+// A number with one byte more, or the largest number where that is larger. What is no digit is passed over.
 fn with_byte(n: u64, b: u8) -> u64
     ensures { result ≡ with_byte n b }
 {
     match b {
-        48..=57 => with_digit(n, octets::wide(b - 48)),
+        b'0'..=b'9' => n.saturating_mul(10).saturating_add(u64::from(b - b'0')),
         _ => n,
     }
 }
@@ -78,11 +56,5 @@ fn with_byte(n: u64, b: u8) -> u64
 pub fn number(s: &[u8]) -> u64
     ensures { result ≡ text_number s.now }
 {
-    let mut n = 0;
-    let mut i = 0;
-    while i < s.len() {
-        n = with_byte(n, s[i]);
-        i += 1;
-    }
-    n
+    s.iter().fold(0, |n, b| with_byte(n, *b))
 }

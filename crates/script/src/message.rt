@@ -8,7 +8,8 @@ use crate::{line, text};
 use base::{bytes, octets, output};
 use frame_writer::frame;
 
-// Puts the body that a field stands for into an array, and gives its length; #N is the number N as eight octets.
+// Puts the body that a field stands for into an array, and gives its length; #N is the number N as eight octets. The
+// array is a fixed one, since the functions that are proved write into lent slices, and these here cannot fail.
 fn put_body(field: &[u8], body: &mut [u8; 512]) -> usize
     ensures { Written body.old 0 (field_body field.now) result body.new }
 {
@@ -42,25 +43,24 @@ fn frames_length(line: &[u8]) -> usize
 {
     let mut rest = line;
     let mut n = 0;
-    while line::has_bar(rest) {
-        n = output::add_lengths(n, framed_length(line::before_bar(rest)));
-        let next = line::behind_bar(rest);
-        rest = next;
+    while let Some((front, behind)) = line::cut(rest) {
+        n = output::add_lengths(n, framed_length(front));
+        rest = behind;
     }
     output::add_lengths(n, framed_length(rest))
 }
 
-// Writes the frames of a line into an output that has room for them.
+// Writes the frames of a line into an output that has room for them. Each is put behind what the one before it gives,
+// and the last promises no other, so the place is kept here.
 fn put_fields(line: &[u8], out: &mut [u8]) -> usize
     requires { length (message_of line.now) ≤ length out.old }
     ensures { Written out.old 0 (message_of line.now) result out.new }
 {
     let mut rest = line;
     let mut at = 0;
-    while line::has_bar(rest) {
-        at = write_frame(line::before_bar(rest), out, at, true);
-        let next = line::behind_bar(rest);
-        rest = next;
+    while let Some((front, behind)) = line::cut(rest) {
+        at = write_frame(front, out, at, true);
+        rest = behind;
     }
     write_frame(rest, out, at, false)
 }

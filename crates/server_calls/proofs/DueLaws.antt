@@ -9,12 +9,12 @@ use mathlib.Core.Path.{◌≡◌, refl, sym, ap, ◌∙◌, subst}
 use lib.Dec.{leb, ltb}
 use lib.ListN.{length}
 use borrow.Author.Tests.{ltb-true, ltb-false, leb-true, leb-false, lt-ltb, le-ltb}
+use Rattle.std.specs.Ordering.{is_le, ordering_reverse}
+use Rattle.std.specs.declared.cmp.Ordering.TheVariants.{Less}
 use Rattle.base.proofs.ByteLaws.{and_left, and_right}
 use Rattle.base.specs.Bytes.{Bytes, every}
-use Rattle.key_order.proofs.OrderLaws.{order_self, order_flip, flipped}
+use Rattle.key_order.proofs.OrderLaws.{order_self, order_flip}
 use Rattle.key_order.specs.Order.{order_of}
-use Rattle.key_order.specs.declared.Order.TheVariants.{Less, Equal, Greater}
-use Rattle.key_order.specs.declared.Order.{Order}
 use Rattle.rows.specs.Rows.{Rows, remove_row, keys_in, Above, Sorted}
 use Rattle.server_calls.specs.Due.{sooner, least_due}
 use Rattle.server_state.specs.Views.{Held}
@@ -25,12 +25,6 @@ abbrev pub Among : Bytes × Held → Rows Held → Type 0
 Among r [] = ⊥
 Among r (q ∷ l) = (r ≡ q) ⊎ Among r l
 
--- a key is another or before it, by how it stands to the other
-abbrev pub not_greater : Order → Bool
-not_greater Less = true
-not_greater Equal = true
-not_greater Greater = false
-
 -- k is held with the expiry e, which is below t; no row has an earlier one, and of sorted rows none before k has the
 -- same
 pub record LeastDue (t : ℕ) (rows : Rows Held) (k : Bytes) (e : ℕ) : Type 0 where
@@ -39,7 +33,7 @@ pub record LeastDue (t : ℕ) (rows : Rows Held) (k : Bytes) (e : ℕ) : Type 0 
   pub expiry : held.expiry ≡ some e
   pub due : e < t
   pub least : (r : Bytes × Held) (f : ℕ) → Among r rows → r.1.expiry ≡ some f → f < t → e ≤ f
-  pub first : Sorted rows → (r : Bytes × Held) → Among r rows → r.1.expiry ≡ some e → not_greater (order_of k r.0) ≡ true
+  pub first : Sorted rows → (r : Bytes × Held) → Among r rows → r.1.expiry ≡ some e → is_le (order_of k r.0) ≡ true
 
 -- no expiry is below t
 abbrev pub NoneDue : ℕ → Rows Held → Type 0
@@ -60,9 +54,9 @@ least_here t q l x e h least = record { held = q.1; among = inl refl; expiry = e
     go r f (inl p) g s = let z : x ≡ f = cc in omega arith
     go r f (inr m) g s = least r f m g s
 
-    ord : Sorted (q ∷ l) → (r : Bytes × Held) → Among r (q ∷ l) → r.1.expiry ≡ some x → not_greater (order_of q.0 r.0) ≡ true
-    ord s r (inl p) g = ap not_greater (ap (λ (y : Bytes × Held). order_of q.0 y.0) p ∙ order_self q.0)
-    ord s r (inr m) g = ap not_greater (above_among q.0 l r s.0 m)
+    ord : Sorted (q ∷ l) → (r : Bytes × Held) → Among r (q ∷ l) → r.1.expiry ≡ some x → is_le (order_of q.0 r.0) ≡ true
+    ord s r (inl p) g = ap is_le (ap (λ (y : Bytes × Held). order_of q.0 y.0) p ∙ order_self q.0)
+    ord s r (inr m) g = ap is_le (above_among q.0 l r s.0 m)
 
 -- the first row is not due, or expires later
 least_there : (t : ℕ) (q : Bytes × Held) (l : Rows Held) (k : Bytes) (e : ℕ) → LeastDue t l k e
@@ -73,7 +67,7 @@ least_there t q l k e d late = record { held = d.held; among = inr d.among; expi
     go r f (inl p) g s = omega (arith, late f (ap (λ (y : Bytes × Held). y.1.expiry) (sym p) ∙ g) s)
     go r f (inr m) g s = d.least r f m g s
 
-    ord : Sorted (q ∷ l) → (r : Bytes × Held) → Among r (q ∷ l) → r.1.expiry ≡ some e → not_greater (order_of k r.0) ≡ true
+    ord : Sorted (q ∷ l) → (r : Bytes × Held) → Among r (q ∷ l) → r.1.expiry ≡ some e → is_le (order_of k r.0) ≡ true
     ord s r (inl p) g = absurd (omega (arith, late e (ap (λ (y : Bytes × Held). y.1.expiry) (sym p) ∙ g) d.due))
     ord s r (inr m) g = d.first s.1 r m g
 
@@ -163,7 +157,7 @@ count_removed t r (q ∷ l) s (inl e) =
     (ap (λ (x : Bytes × Held). due_one t x.1.expiry + due_count t l) e)
 count_removed t r (q ∷ l) s (inr m) =
     let i = count_removed t r l s.1 m in
-    rw (order_flip q.0 r.0 ∙ ap flipped (above_among q.0 l r s.0 m)) (omega (arith, i))
+    rw (order_flip q.0 r.0 ∙ ap ordering_reverse (above_among q.0 l r s.0 m)) (omega (arith, i))
 
 pub count_due : (t : ℕ) (rows : Rows Held) (k : Bytes) (e : ℕ) → Sorted rows → least_due t rows ≡ some (k, e)
     → suc (due_count t (remove_row k rows)) ≡ due_count t rows

@@ -1,13 +1,13 @@
 -- What a call makes of a server's ledger.
-use Rattle.std.specs.Prelude.{ℕ, suc, ◌+◌, ◌*◌, cond}
+use Rattle.std.specs.Prelude
+use Rattle.std.specs.Prelude.{ℕ, suc, ◌+◌, ◌*◌, cond, Some, None}
 use Rattle.std.proofs.Math.Option.{Option, none, some}
 use Rattle.answers.specs.Refusals.{if_accepted}
 use Rattle.base.specs.Bytes.{is_nil}
 use Rattle.messages.specs.Fields.{Fields, fields_of}
 use Rattle.properties.specs.Properties.{properties_of}
 use Rattle.properties.specs.declared.read.Lifetime.TheVariants.{Unlimited, Seconds}
-use Rattle.properties.specs.declared.read.Properties.TheVariants.{Good, Malformed}
-use Rattle.properties.specs.declared.read.Properties.{Properties}
+use Rattle.properties.specs.declared.read.Lifetime.{Lifetime}
 use Rattle.rows.specs.Rows.{set_row, remove_row}
 use Rattle.server_calls.specs.Calls.{Call, kvset, tick, icanhaz}
 use Rattle.server_calls.specs.Deeds.{Deed, expire, beat, quiet, deed}
@@ -16,10 +16,10 @@ use Rattle.server_state.specs.Views.{Entry, Ledger, view, ledger_of}
 use Rattle.server_state.specs.declared.Server.{Server}
 
 -- a row set at tick t with a lifetime of n seconds expires at t + 1000n
-abbrev pub expiry_at : ℕ → Properties → Option ℕ
-expiry_at t (Good Unlimited) = none
-expiry_at t (Good (Seconds n)) = some (t + 1000 * n)
-expiry_at t Malformed = none
+abbrev pub expiry_at : ℕ → Prelude.Option Lifetime → Option ℕ
+expiry_at t (Some Unlimited) = none
+expiry_at t (Some (Seconds n)) = some (t + 1000 * n)
+expiry_at t None = none
 
 -- what is held of an update at tick t under number n; no old expiry is kept
 abbrev pub entry_for : Fields → ℕ → ℕ → Entry

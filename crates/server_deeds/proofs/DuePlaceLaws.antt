@@ -1,15 +1,17 @@
 -- Laws of the search for the row that is due: the cases of a step, a scan from the end, and places against rows. Assumes
 -- nothing.
+use Rattle.std.specs.Prelude
+use Rattle.std.specs.Prelude.{Some, None}
 use Prim.Native.Nat.{ℕ, suc, ◌≤◌, ◌<◌}
 use native.Mathlib.Omega.{arith}
-use mathlib.Core.Bool.{Bool, true, false, not, cond}
+use mathlib.Core.Bool.{Bool, true, false, cond}
 use mathlib.Core.List.{List, [], ◌∷◌, map, zip_with}
 use mathlib.Core.Option.{Option, none, some}
 use mathlib.Core.Path.{◌≡◌, refl, sym, ap, ap₂, ◌∙◌}
 use lib.Dec.{leb, ltb, eqb}
 use lib.ListN.{length, get_or, drop, drop_of_length-le, length-map, get_or-map}
 use lib.Seq.{drop-cons}
-use borrow.Author.Tests.{ltb-true, ltb-false, lt-ltb, le-ltb, le-leb, lt-leb, ne_eqb, not-true, not-false}
+use borrow.Author.Tests.{ltb-true, ltb-false, lt-ltb, le-ltb, le-leb, lt-leb, ne_eqb}
 use Rattle.base.specs.Bytes.{Bytes}
 use Rattle.cells.proofs.CellLaws.{length-cells, cell-at}
 use Rattle.cells.specs.Cells.{cells, cell_at}
@@ -23,25 +25,8 @@ use Rattle.server_state.proofs.StateLaws.{key_count}
 use Rattle.server_state.specs.Stamps.{stamp_count, stamp_expiry, never, expiry_in}
 use Rattle.server_state.specs.Views.{Entry, entry, plain, key_list, entry_list}
 use Rattle.server_state.specs.declared.Server.{Server}
-use Rattle.server_deeds.specs.DuePlaces.{before, earlier, due_from, expiries_of}
-use Rattle.server_deeds.specs.declared.due.Due.TheVariants.{At, Nothing}
+use Rattle.server_deeds.specs.DuePlaces.{due_at, before, earlier, due_from, expiries_of}
 use Rattle.server_deeds.specs.declared.due.Due.{Due}
-
--- ---- the cases of a step
-module _ (t at : ℕ) (e : Tick) (rest : Due) {due : Bool} (is : due ≡ ltb e.0 t) where
-  pub not_due : not due ≡ true → rest ≡ earlier t at e rest
-  not_due h = rw (sym is ∙ not-true due h)
-
-  module _ (h : not due ≡ false) where
-    pub only_due : rest ≡ Nothing → At at e ≡ earlier t at e rest
-    only_due q = rw (sym is ∙ not-false due h, q)
-
-    module _ (i : ℕ) (f : Tick) (q : rest ≡ At i f) {sooner : Bool} (g : sooner ≡ ltb f.0 e.0) where
-      pub goes_later : sooner ≡ true → At i f ≡ earlier t at e rest
-      goes_later k = rw (sym is ∙ not-false due h, q, sym g ∙ k)
-
-      pub goes_first : sooner ≡ false → At at e ≡ earlier t at e rest
-      goes_first k = rw (sym is ∙ not-false due h, q, sym g ∙ k)
 
 -- ---- the expiries of the first n rows
 module _ (n : ℕ) (stamps : List ℕ) where
@@ -55,11 +40,11 @@ module _ (n : ℕ) (stamps : List ℕ) where
 
 -- ---- a scan from the end
 module _ (t : ℕ) (es : List ℕ) where
-  pub due_end : (n : ℕ) → length es ≤ n → Nothing ≡ due_from n t (drop n es)
+  pub due_end : (n : ℕ) → length es ≤ n → None ≡ due_from n t (drop n es)
   unfolding due_from
   due_end n h = rw (drop_of_length-le es h)
 
-  pub due_step : (i j : ℕ) → i ≡ suc j → i ≤ length es → {e : Tick} → e.0 ≡ get_or es j 0 → {rest found : Due} → found ≡ earlier t j e rest → rest ≡ due_from i t (drop i es) → found ≡ due_from j t (drop j es)
+  pub due_step : (i j : ℕ) → i ≡ suc j → i ≤ length es → {e : Tick} → e.0 ≡ get_or es j 0 → {rest found : Prelude.Option Due} → found ≡ earlier t j e rest → rest ≡ due_from i t (drop i es) → found ≡ due_from j t (drop j es)
   unfolding due_from
   due_step i j i-is h {e} e-is {rest} found-is rest_is =
       let b : j < length es = omega arith in
@@ -67,21 +52,21 @@ module _ (t : ℕ) (es : List ℕ) where
 
 -- ---- places against rows
 -- a place one further
-abbrev next : Due → Due
-next (At i e) = At (suc i) e
-next Nothing = Nothing
+abbrev next : Prelude.Option Due → Prelude.Option Due
+next (Some d) = due_at (suc d.at) d.expiry
+next None = None
 
-next_step : (t at : ℕ) (e : Tick) (rest : Due) → earlier t (suc at) e (next rest) ≡ next (earlier t at e rest)
+next_step : (t at : ℕ) (e : Tick) (rest : Prelude.Option Due) → earlier t (suc at) e (next rest) ≡ next (earlier t at e rest)
 next_step t at e rest = go (ltb e.0 t) rest
   where
-    pick : (b : Bool) (i : ℕ) (f : Tick) → cond b (At (suc i) f) (At (suc at) e) ≡ next (cond b (At i f) (At at e))
+    pick : (b : Bool) (i : ℕ) (f : Tick) → cond b (due_at (suc i) f) (due_at (suc at) e) ≡ next (cond b (due_at i f) (due_at at e))
     pick true i f = refl
     pick false i f = refl
 
-    go : (b : Bool) (rest : Due) → cond b (before (suc at) e (next rest)) (next rest) ≡ next (cond b (before at e rest) rest)
+    go : (b : Bool) (rest : Prelude.Option Due) → cond b (before (suc at) e (next rest)) (next rest) ≡ next (cond b (before at e rest) rest)
     go false rest = refl
-    go true (At i f) = pick (ltb f.0 e.0) i f
-    go true Nothing = refl
+    go true (Some d) = pick (ltb d.expiry.0 e.0) d.at d.expiry
+    go true None = refl
 
 due_next : (i t : ℕ) (es : List ℕ) → due_from (suc i) t es ≡ next (due_from i t es)
 unfolding due_from
@@ -89,38 +74,35 @@ due_next i t [] = refl
 due_next i t (e ∷ es) = rw (due_next (suc i) t es) (next_step t i (tick e) (due_from (suc i) t es))
 
 -- a row that is found is one of them
-due_below : (t : ℕ) (es : List ℕ) (i : ℕ) (f : Tick) → due_from 0 t es ≡ At i f → i < length es
+due_below : (t : ℕ) (es : List ℕ) (d : Due) → due_from 0 t es ≡ Some d → d.at < length es
 unfolding due_from
-due_below t [] i f q = absurd (let z : ◌≡◌ {A = ℕ} 0 1 = cc in omega arith)
-due_below t (e ∷ es) i f q = go (ltb e t) (due_from 0 t es) (λ j g. due_below t es j g) (rw (due_next 0 t es) at q)
+due_below t [] d q = absurd (let z : ◌≡◌ {A = ℕ} 0 1 = cc in omega arith)
+due_below t (e ∷ es) d q = go (ltb e t) (due_from 0 t es) (λ f. due_below t es f) (rw (due_next 0 t es) at q)
   where
-    first : At 0 (tick e) ≡ At i f → i < length (e ∷ es)
-    first q = let a : i ≡ 0 = cc in omega arith
+    placed : (i : ℕ) (f : Tick) → i ≤ length es → due_at i f ≡ Some d → d.at < length (e ∷ es)
+    placed i f h q = let a : record { at = i; expiry = f } ≡ d = cc in omega (arith, ap (λ (x : Due). x.at) a)
 
-    later : (j : ℕ) (g : Tick) → j < length es → At (suc j) g ≡ At i f → i < length (e ∷ es)
-    later j g h q = let a : i ≡ suc j = cc in omega arith
+    pick : (b : Bool) (f : Due) → f.at < length es → cond b (due_at (suc f.at) f.expiry) (due_at 0 (tick e)) ≡ Some d → d.at < length (e ∷ es)
+    pick true f h q = placed (suc f.at) f.expiry (omega arith) q
+    pick false f h q = placed 0 (tick e) (omega arith) q
 
-    pick : (b : Bool) (j : ℕ) (g : Tick) → j < length es → cond b (At (suc j) g) (At 0 (tick e)) ≡ At i f → i < length (e ∷ es)
-    pick true j g h q = later j g h q
-    pick false j g h q = first q
+    go : (b : Bool) (x : Prelude.Option Due) → ((f : Due) → x ≡ Some f → f.at < length es) → cond b (before 0 (tick e) (next x)) (next x) ≡ Some d → d.at < length (e ∷ es)
+    go false (Some f) ih q = pick true f (ih f refl) q
+    go false None ih q = absurd (let z : ◌≡◌ {A = ℕ} 0 1 = cc in omega arith)
+    go true (Some f) ih q = pick (ltb f.expiry.0 e) f (ih f refl) q
+    go true None ih q = placed 0 (tick e) (omega arith) q
 
-    go : (b : Bool) (d : Due) → ((j : ℕ) (g : Tick) → d ≡ At j g → j < length es) → cond b (before 0 (tick e) (next d)) (next d) ≡ At i f → i < length (e ∷ es)
-    go false (At j g) ih q = later j g (ih j g refl) q
-    go false Nothing ih q = absurd (let z : ◌≡◌ {A = ℕ} 0 1 = cc in omega arith)
-    go true (At j g) ih q = pick (ltb g.0 e) j g (ih j g refl) q
-    go true Nothing ih q = first q
-
-pub due_row-below : (t n : ℕ) (stamps : List ℕ) {i : ℕ} {f : Tick} {found : Due} → found ≡ due_from 0 t (expiries_of n stamps) → found ≡ At i f → i < n
-due_row-below t n stamps {i} {f} is at = omega (arith, due_below t (expiries_of n stamps) i f (sym is ∙ at), expiry_count n stamps)
+pub due_row-below : (t n : ℕ) (stamps : List ℕ) {d : Due} {found : Prelude.Option Due} → found ≡ due_from 0 t (expiries_of n stamps) → found ≡ Some d → d.at < n
+due_row-below t n stamps {d} is at = omega (arith, due_below t (expiries_of n stamps) d (sym is ∙ at), expiry_count n stamps)
 
 -- the key at a place that is due, with the expiry
-abbrev pub keyed : List Bytes → Due → Option (Bytes × ℕ)
-keyed keys (At i e) = some (get_or keys i [], e.0)
-keyed keys Nothing = none
+abbrev pub keyed : List Bytes → Prelude.Option Due → Option (Bytes × ℕ)
+keyed keys (Some d) = some (get_or keys d.at [], d.expiry.0)
+keyed keys None = none
 
-keyed_next : (k : Bytes) (keys : List Bytes) (d : Due) → keyed (k ∷ keys) (next d) ≡ keyed keys d
-keyed_next k keys (At i e) = refl
-keyed_next k keys Nothing = refl
+keyed_next : (k : Bytes) (keys : List Bytes) (d : Prelude.Option Due) → keyed (k ∷ keys) (next d) ≡ keyed keys d
+keyed_next k keys (Some d) = refl
+keyed_next k keys None = refl
 
 -- a row whose expiry is not before t does not go in front of others
 sooner_not : (t e : ℕ) (k : Bytes) (best : Option (Bytes × ℕ)) → t ≤ e → sooner t k (expiry_in e) best ≡ best
@@ -131,22 +113,22 @@ sooner_not t e k best h = go (eqb e never) best
     go false none = rw (le-ltb e t h)
     go false (some b) = rw (le-ltb e t h)
 
-sooner_keyed : (t e : ℕ) (k : Bytes) (keys : List Bytes) (d : Due) → t ≤ max_tick
+sooner_keyed : (t e : ℕ) (k : Bytes) (keys : List Bytes) (d : Prelude.Option Due) → t ≤ max_tick
     → sooner t k (expiry_in e) (keyed keys d) ≡ keyed (k ∷ keys) (earlier t 0 (tick e) (next d))
 sooner_keyed t e k keys d late = go (ltb e t) refl d
   where
     pick : (b : Bool) (i : ℕ) (f : Tick) → ltb f.0 e ≡ b
-        → cond (leb e f.0) (some (k, e)) (some (get_or keys i [], f.0)) ≡ keyed (k ∷ keys) (cond b (At (suc i) f) (At 0 (tick e)))
+        → cond (leb e f.0) (some (k, e)) (some (get_or keys i [], f.0)) ≡ keyed (k ∷ keys) (cond b (due_at (suc i) f) (due_at 0 (tick e)))
     pick true i f q = rw (lt-leb e f.0 (ltb-true f.0 e q))
     pick false i f q = rw (le-leb e f.0 (ltb-false f.0 e q))
 
-    go : (b : Bool) → ltb e t ≡ b → (d : Due)
+    go : (b : Bool) → ltb e t ≡ b → (d : Prelude.Option Due)
         → sooner t k (expiry_in e) (keyed keys d) ≡ keyed (k ∷ keys) (cond b (before 0 (tick e) (next d)) (next d))
     go false h d = sooner_not t e k (keyed keys d) (ltb-false e t h) ∙ sym (keyed_next k keys d)
-    go true h (At i f) =
+    go true h (Some d) =
         let l = ltb-true e t h in
-        rw (ne_eqb e never (λ q. omega arith), lt-ltb e t l) (pick (ltb f.0 e) i f refl)
-    go true h Nothing =
+        rw (ne_eqb e never (λ q. omega arith), lt-ltb e t l) (pick (ltb d.expiry.0 e) d.at d.expiry refl)
+    go true h None =
         let l = ltb-true e t h in
         rw (ne_eqb e never (λ q. omega arith), lt-ltb e t l)
 

@@ -1,8 +1,8 @@
 -- Laws of the plan of a Tick: the checks that are made step by step, and what is known of a plan that was made. Assumes
 -- nothing.
+use Rattle.std.specs.Prelude.{Result, Ok, Err}
 use Prim.Native.Nat.{ℕ, suc, ◌-◌, ◌≤◌, ◌<◌, min}
 use native.Mathlib.Omega.{arith}
-use mathlib.Core.Bool.{Bool, true, false}
 use mathlib.Core.Option.{Option, none, some}
 use mathlib.Core.Path.{◌≡◌, refl, sym, ap, ◌∙◌}
 use lib.ListN.{length}
@@ -17,21 +17,16 @@ use Rattle.messages.specs.Fields.{bytes_of, hugz, message_length}
 use Rattle.numbers.specs.Sequences.{max_sequence, sequence}
 use Rattle.numbers.specs.Ticks.{tick}
 use Rattle.numbers.specs.declared.sequence.Sequence.{Sequence}
-use Rattle.numbers.specs.declared.tick.Tick.{Tick}
 use Rattle.server_calls.proofs.LengthLaws.{expiry-length, expiry_bound, hugz-length}
-use Rattle.row_cells.specs.Texts.{row_key}
 use Rattle.server_calls.specs.Refusals.{expiry}
 use Rattle.server_state.specs.declared.Header.{Header}
-use Rattle.server_state.specs.declared.Server.{Server}
-use Rattle.server_deeds.specs.Plans.{beat_header, quiet_header, or_refuse, expire_plan, beat_plan, deed_plan, due_in}
-use Rattle.server_deeds.specs.declared.due.Due.TheVariants.{At, Nothing}
-use Rattle.server_deeds.specs.declared.due.Due.{Due}
-use Rattle.server_deeds.specs.declared.Plan.TheVariants.{Refuse, Expire, Beat, Quiet}
+use Rattle.server_deeds.specs.Plans.{beat_header, quiet_header, or_refuse, expire_plan, beat_plan}
+use Rattle.server_deeds.specs.declared.Plan.TheVariants.{Expire, Beat, Quiet}
 use Rattle.server_deeds.specs.declared.Plan.{Plan}
 
 -- ---- a row is due
 module _ (h : Header) (t i room : ℕ) (key : Bytes) where
-  pub exhausted : h.number.0 ≤ max_sequence → max_sequence ≤ h.number.0 → Refuse Exhausted ≡ expire_plan h t i key room
+  pub exhausted : h.number.0 ≤ max_sequence → max_sequence ≤ h.number.0 → Err Exhausted ≡ expire_plan h t i key room
   unfolding first_refusal
   exhausted low g = rw (eq-eqb h.number.0 max_sequence (omega arith))
 
@@ -39,58 +34,43 @@ module _ (h : Header) (t i room : ℕ) (key : Bytes) where
     long : m ≡ min (length (expiry (suc h.number.0) key)) largest
     long = m-is ∙ rw (own, expiry-length (suc h.number.0) key)
 
-    pub too_short : room < m → Refuse ShortOutput ≡ expire_plan h t i key room
+    pub too_short : room < m → Err ShortOutput ≡ expire_plan h t i key room
     unfolding first_refusal
     too_short k = rw (ne_eqb h.number.0 max_sequence (λ q. omega arith), lt-ltb room (length (expiry (suc h.number.0) key)) (omega (arith, long)))
 
     pub goes : length key ≤ key_room → m ≤ room → {next : Sequence} → next ≡ sequence (suc h.number.0)
-        → Expire i (record { number = next; last_tick = tick t; last_published = tick t; count = h.count - 1 }) ≡ expire_plan h t i key room
+        → Ok (Expire i (record { number = next; last_tick = tick t; last_published = tick t; count = h.count - 1 })) ≡ expire_plan h t i key room
     unfolding first_refusal
     goes short k {next} next_is =
         rw (ne_eqb h.number.0 max_sequence (λ q. omega arith), le-ltb room (length (expiry (suc h.number.0) key)) (omega (arith, long, expiry_bound (suc h.number.0) key short)), next_is)
 
 -- ---- no row is
 module _ (h : Header) (t room : ℕ) {since : ℕ} (is : since ≡ t - h.last_published.0) where
-  pub is_quiet : since < 1000 → Quiet (quiet_header h t) ≡ beat_plan h t room
+  pub is_quiet : since < 1000 → Ok (Quiet (quiet_header h t)) ≡ beat_plan h t room
   unfolding first_refusal
   is_quiet k = rw (lt-leb 1000 (t - h.last_published.0) (omega arith))
 
-  pub no_beat : 1000 ≤ since → room < 22 → Refuse ShortOutput ≡ beat_plan h t room
+  pub no_beat : 1000 ≤ since → room < 22 → Err ShortOutput ≡ beat_plan h t room
   unfolding first_refusal
   no_beat k l = rw (le-leb 1000 (t - h.last_published.0) (omega arith), lt-ltb room (length (bytes_of hugz)) (omega (arith, hugz-length)))
 
-  pub beats : 1000 ≤ since → 22 ≤ room → Beat (beat_header h t) ≡ beat_plan h t room
+  pub beats : 1000 ≤ since → 22 ≤ room → Ok (Beat (beat_header h t)) ≡ beat_plan h t room
   unfolding first_refusal
   beats k l =
       rw (le-leb 1000 (t - h.last_published.0) (omega arith), le-ltb room (length (bytes_of hugz)) (omega (arith, hugz-length)))
 
--- ---- by the row that is due
-module _ (s : Server) (t room : ℕ) {found : Due} (is : found ≡ due_in s t) where
-  pub by_row : {i : ℕ} {e : Tick} → found ≡ At i e → expire_plan s.header t i (row_key i s.bytes s.lengths) room ≡ deed_plan s t room
-  by_row at = rw (sym is ∙ at)
-
-  pub by_none : found ≡ Nothing → beat_plan s.header t room ≡ deed_plan s t room
-  by_none at = rw (sym is ∙ at)
-
 -- ---- what is known of a plan
--- whether a plan refuses
-abbrev pub refuses : Plan → Bool
-refuses (Refuse r) = true
-refuses (Expire i h) = false
-refuses (Beat h) = false
-refuses (Quiet h) = false
-
-module _ (x : Option Refusal) (p : Plan) {plan : Plan} (e : plan ≡ or_refuse x p) where
-  pub goes_on : {q : Plan} → plan ≡ q → refuses q ≡ false → (x ≡ none) × (p ≡ q)
-  goes_on {q} g f = go x refl (sym g ∙ e)
+module _ (x : Option Refusal) (p : Plan) {found : Result Plan Refusal} (e : found ≡ or_refuse x p) where
+  pub goes_on : {q : Plan} → found ≡ Ok q → (x ≡ none) × (p ≡ q)
+  goes_on {q} g = go x (sym g ∙ e)
     where
-      go : (y : Option Refusal) → x ≡ y → q ≡ or_refuse y p → (x ≡ none) × (p ≡ q)
-      go none a b = (a, sym b)
-      go (some r) a b = absurd (let z : true ≡ false = sym (ap refuses b) ∙ f in let w : ◌≡◌ {A = ℕ} 0 1 = cc in omega arith)
+      go : (y : Option Refusal) → Ok q ≡ or_refuse y p → (y ≡ none) × (p ≡ q)
+      go none a = (refl, cc)
+      go (some r) a = absurd (let z : ◌≡◌ {A = ℕ} 0 1 = cc in omega arith)
 
-  pub stops_with : refuses p ≡ false → {r : Refusal} → plan ≡ Refuse r → x ≡ some r
-  stops_with f {r} g = go x (sym g ∙ e)
+  pub stops_with : {r : Refusal} → found ≡ Err r → x ≡ some r
+  stops_with {r} g = go x (sym g ∙ e)
     where
-      go : (y : Option Refusal) → Refuse r ≡ or_refuse y p → y ≡ some r
-      go none q = absurd (let z : true ≡ false = ap refuses q ∙ f in let w : ◌≡◌ {A = ℕ} 0 1 = cc in omega arith)
+      go : (y : Option Refusal) → Err r ≡ or_refuse y p → y ≡ some r
+      go none q = absurd (let z : ◌≡◌ {A = ℕ} 0 1 = cc in omega arith)
       go (some o) q = let i : o ≡ r = cc in ap some i

@@ -9,40 +9,32 @@ use server_state::{RowStamps, stamps as row_stamps};
 
 // A row that is due, with its expiry.
 #[derive(Clone, Copy)]
-pub enum Due {
-    At(usize, Tick),
-    Nothing,
+pub struct Due {
+    pub at: usize,
+    pub expiry: Tick,
 }
 
 // A row with an expiry, in front of others of which one may be due: it goes first if it is due and none of them expires
 // earlier.
-fn earlier_of(at: usize, expiry: Tick, tick: Tick, rest: Due) -> Due
+fn earlier_of(at: usize, expiry: Tick, tick: Tick, rest: Option<Due>) -> Option<Due>
     ensures { result ≡ earlier tick.0 at expiry rest }
 {
     if !tick::is_before(expiry, tick) {
         return rest;
     }
     match rest {
-        Due::Nothing => Due::At(at, expiry),
-        Due::At(i, other) => {
-            if tick::is_before(other, expiry) {
-                Due::At(i, other)
-            } else {
-                Due::At(at, expiry)
-            }
-        }
+        Some(due) if tick::is_before(due.expiry, expiry) => Some(due),
+        _ => Some(Due { at, expiry }),
     }
 }
 
 // The row that is due first, of the first count rows. No tick is after the expiry of a row that does not expire.
-pub(crate) fn due_row(stamps: &RowStamps, count: usize, tick: Tick) -> Due
+pub(crate) fn due_row(stamps: &RowStamps, count: usize, tick: Tick) -> Option<Due>
     requires { count ≤ max_rows }
     ensures { result ≡ due_from 0 tick.0 (expiries_of count stamps.now) }
 {
-    let mut first = Due::Nothing;
-    let mut i = count;
-    while 0 < i {
-        i -= 1;
+    let mut first = None;
+    for i in (0..count).rev() {
         first = earlier_of(i, row_stamps::expiry_at(stamps, i), tick, first);
     }
     first

@@ -9,10 +9,8 @@ ghost use Rattle.row_cells.specs.Texts.{row_key};
 ghost use Rattle.server_state.specs.Views.{lent};
 ghost use Rattle.server_deeds.specs.Plans.{expire_plan, beat_plan, deed_plan, tick_plan};
 
-use answers::refusal::{Refusal, Verdict};
-use due::Due;
+use answers::refusal::Refusal;
 use messages::write;
-use numbers::sequence::Following;
 use numbers::tick::Tick;
 use numbers::{sequence, tick};
 use ports::time;
@@ -27,10 +25,9 @@ pub const HEARTBEAT_MS: u64 = 1000;
 // How many bytes HUGZ takes.
 const HUGZ_LENGTH: usize = 22;
 
-// It is refused; or a row expires, it gives a sign of life, or it does nothing, each with the header after the call.
+// A row expires, the server gives a sign of life, or it does nothing, each with the header after the call.
 #[derive(Clone, Copy)]
 pub enum Plan {
-    Refuse(Refusal),
     Expire(usize, Header),
     Beat(Header),
     Quiet(Header),
@@ -44,18 +41,15 @@ fn plan_expiry<'a>(
     tick: Tick,
     i: usize,
     room: usize,
-) -> Plan
+) -> Result<Plan, Refusal>
     requires { GoodRows header.count bytes.now lengths.now
         × ((i < header.count) × (header.number.0 ≤ max_sequence)) }
     ensures { result ≡ expire_plan header tick.0 i (row_key i bytes.now lengths.now) room }
 {
-    let number = header.number;
-    let Following::Next(next) = sequence::next_number(number) else {
-        return Plan::Refuse(Refusal::Exhausted);
-    };
+    let next = sequence::next_number(header.number).ok_or(Refusal::Exhausted)?;
     let key = text::key_at(bytes, lengths, i);
     if room < write::message_length(key.len(), 0, 0, 0) {
-        return Plan::Refuse(Refusal::ShortOutput);
+        return Err(Refusal::ShortOutput);
     }
     let after = Header {
         number: next,
@@ -63,33 +57,27 @@ fn plan_expiry<'a>(
         last_published: tick,
         count: header.count - 1,
     };
-    Plan::Expire(i, after)
+    Ok(Plan::Expire(i, after))
 }
 
 // No row is due.
-fn plan_beat(header: Header, tick: Tick, room: usize) -> Plan
+fn plan_beat(header: Header, tick: Tick, room: usize) -> Result<Plan, Refusal>
     ensures { result ≡ beat_plan header tick.0 room }
 {
-    let number = header.number;
-    let published = header.last_published;
-    let count = header.count;
-    if tick::elapsed(published, tick) < HEARTBEAT_MS {
-        return Plan::Quiet(Header {
-            number,
-            last_tick: tick,
-            last_published: published,
-            count,
-        });
+    let quiet = Header {
+        last_tick: tick,
+        ..header
+    };
+    if tick::elapsed(header.last_published, tick) < HEARTBEAT_MS {
+        return Ok(Plan::Quiet(quiet));
     }
     if room < HUGZ_LENGTH {
-        return Plan::Refuse(Refusal::ShortOutput);
+        return Err(Refusal::ShortOutput);
     }
-    Plan::Beat(Header {
-        number,
-        last_tick: tick,
+    Ok(Plan::Beat(Header {
         last_published: tick,
-        count,
-    })
+        ..quiet
+    }))
 }
 
 // What there is to do at a tick that is good: by the row that is due, if any, and the last publication.
@@ -100,14 +88,14 @@ fn plan_deed<'a>(
     header: Header,
     tick: Tick,
     room: usize,
-) -> Plan
+) -> Result<Plan, Refusal>
     requires { GoodRows header.count bytes.now lengths.now × (header.number.0 ≤ max_sequence) }
     ensures { result ≡ deed_plan
         (lent bytes.now lengths.now stamps.now header) tick.0 room }
 {
     match due::due_row(stamps, header.count, tick) {
-        Due::At(i, _) => plan_expiry(bytes, lengths, header, tick, i, room),
-        Due::Nothing => plan_beat(header, tick, room),
+        Some(due) => plan_expiry(bytes, lengths, header, tick, due.at, room),
+        None => plan_beat(header, tick, room),
     }
 }
 
@@ -119,16 +107,11 @@ pub fn plan_tick<'a>(
     header: Header,
     tick: Tick,
     room: usize,
-) -> Plan
+) -> Result<Plan, Refusal>
     ensures { result ≡ tick_plan
         (lent bytes.now lengths.now stamps.now header) tick.0 room }
 {
-    let last = header.last_tick;
-    match validate::check_state(bytes, lengths, stamps, header) {
-        Verdict::Refuse(r) => Plan::Refuse(r),
-        Verdict::Accept => match time::check_tick(last, tick) {
-            Verdict::Refuse(r) => Plan::Refuse(r),
-            Verdict::Accept => plan_deed(bytes, lengths, stamps, header, tick, room),
-        },
-    }
+    validate::check_state(bytes, lengths, stamps, header)?;
+    time::check_tick(header.last_tick, tick)?;
+    plan_deed(bytes, lengths, stamps, header, tick, room)
 }

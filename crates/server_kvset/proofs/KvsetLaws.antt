@@ -1,5 +1,7 @@
 -- What an accepted KVSET makes of a server: the update in every array is the update of the ledger, and the state stays
 -- well-formed. Assumes nothing.
+use Rattle.std.specs.Prelude
+use Rattle.std.specs.Prelude.{Some, None, Result, Ok, Err}
 use Prim.Native.Nat.{ℕ, suc, ◌+◌, ◌*◌, ◌≤◌, ◌<◌}
 use native.Mathlib.Nat.{zero-add}
 use native.Mathlib.Omega.{arith}
@@ -35,8 +37,6 @@ use Rattle.ports.specs.Ports.{kvset_port, tick_checks}
 use Rattle.properties.specs.Properties.{properties_of, seconds_of}
 use Rattle.properties.specs.declared.read.Lifetime.TheVariants.{Unlimited, Seconds}
 use Rattle.properties.specs.declared.read.Lifetime.{Lifetime}
-use Rattle.properties.specs.declared.read.Properties.TheVariants.{Good, Malformed}
-use Rattle.properties.specs.declared.read.Properties.{Properties}
 use Rattle.row_cells.specs.Faults.{GoodRows}
 use Rattle.row_cells.specs.FreshRows.{cell_of, IsRow}
 use Rattle.row_cells.specs.Texts.{cell_value, rows_of}
@@ -55,9 +55,8 @@ use Rattle.server_calls.specs.Next.{entry_for, expiry_at, kvset_next, accepted_n
 use Rattle.server_calls.specs.Output.{accepted_bytes}
 use Rattle.server_calls.specs.Promises.{Answered}
 use Rattle.server_calls.specs.Refusals.{update, call_checks, refusal_of}
-use Rattle.server_updates.specs.Plans.{stamps_for, expiry_from, change_by, header_after, store_plan, update_table, kvset_plan}
-use Rattle.server_updates.proofs.PlanLaws.{lifetime_most, goes_on, goes_with, headed_by, stamped_with, stops_with}
-use Rattle.server_updates.specs.declared.Plan.TheVariants.{Refuse, Store}
+use Rattle.server_updates.specs.Plans.{stamps_for, expiry_from, change_by, header_after, planned, store_plan, update_table, kvset_plan}
+use Rattle.server_updates.proofs.PlanLaws.{lifetime_most, goes_on, stops_with}
 use Rattle.server_updates.specs.declared.Plan.{Plan}
 use Rattle.server_state.proofs.FormLaws.{GoodServer, good_server, server_good}
 use Rattle.server_state.proofs.StateLaws.{Restamped, key_count, as_many, row_count, rows-changed, good_after}
@@ -69,15 +68,15 @@ use Rattle.server_state.specs.declared.Server.{Server}
 use Rattle.server_state.specs.declared.stamps.Stamps.{Stamps}
 
 -- ---- expiries
-expiry_read : (t : ℕ) (l : Lifetime) → t ≤ max_tick → seconds_of l ≤ 86400 → (expiry_in (expiry_from t l) ≡ expiry_at t (Good l)) × (is_expiry (expiry_from t l) ≡ true)
+expiry_read : (t : ℕ) (l : Lifetime) → t ≤ max_tick → seconds_of l ≤ 86400 → (expiry_in (expiry_from t l) ≡ expiry_at t (Some l)) × (is_expiry (expiry_from t l) ≡ true)
 expiry_read t Unlimited h k = (refl, refl)
 expiry_read t (Seconds n) h k =
     let e : eqb (t + 1000 * n) never ≡ false = ne_eqb (t + 1000 * n) never (λ q. omega arith) in
     (rw e, rw (e, le-leb (t + 1000 * n) max_expiry (omega arith)))
 
-expiry-same : (t : ℕ) (p : Properties) → expiry_at t (Good (lifetime_in p)) ≡ expiry_at t p
-expiry-same t Malformed = refl
-expiry-same t (Good l) = refl
+expiry-same : (t : ℕ) (p : Prelude.Option Lifetime) → expiry_at t (Some (lifetime_in p)) ≡ expiry_at t p
+expiry-same t None = refl
+expiry-same t (Some l) = refl
 
 -- ---- the checks of a KVSET after that of the state, as they are made over the rows
 abbrev kvset_table : Server → Bytes → ℕ → ℕ → List (Check Refusal)
@@ -100,7 +99,7 @@ module _ (s : Server) (msg : Bytes) (t room : ℕ) where
   kvset-refusal : first_refusal (ill_forms s ++ kvset_table s msg t room) ≡ refusal_of s (kvset msg t room)
   kvset-refusal = refusal_is s (kvset msg t room) (kvset_table s msg t room) kvset-table
 
-  abbrev plan_for : List (Check Refusal) → Fields → Plan
+  abbrev plan_for : List (Check Refusal) → Fields → Result Plan Refusal
   plan_for port f =
       store_plan (first_refusal (ill_forms s ++ (port ++ (tick_checks s.header.last_tick.0 t ++ update_table (key_list s) s.header f room))))
       (key_list s) s.header f t (lifetime_in (properties_of f.properties))
@@ -180,7 +179,7 @@ module _ (s : Server) (msg : Bytes) (t room : ℕ) where
     -- the state after the change: the fresh row and its stamps
     module _ (row : Row) (is_row : IsRow row (frame_at 0 msg) (frame_at 4 msg)) {s' : Server}
         (c : Restamped change (cell_of row) row.lengths own s s') (header_is : s'.header ≡ header_after s.header change t) where
-      expires : (expiry_in (expiry_from t lifetime) ≡ expiry_at t (Good lifetime)) × (is_expiry (expiry_from t lifetime) ≡ true)
+      expires : (expiry_in (expiry_from t lifetime) ≡ expiry_at t (Some lifetime)) × (is_expiry (expiry_from t lifetime) ≡ true)
       expires = expiry_read t lifetime in_time (lifetime_most (frame_at 3 msg))
 
       entry_is : entry (cell_value (cell_of row) row.lengths) own ≡ new
@@ -214,25 +213,28 @@ module _ (s : Server) (msg : Bytes) (t room : ℕ) where
           (view_is ∙ sym kvset-next) (output wrote fits ∙ ap (put out 0) (sym kvset-bytes)) (λ w. server_good s' good_is)
 
 -- ---- a plan that was made by the split of the message, and what was done by it
-module _ (s : Server) (msg : Bytes) (t : ℕ) (out : Bytes) (split : Split) (is : IsSplit msg split) {plan : Plan} (e : plan ≡ kvset_plan s msg split t (length out)) where
-  planned : plan ≡ store_plan (refusal_of s (kvset msg t (length out))) (key_list s) s.header (fields_of msg) t (lifetime s msg t (length out))
-  planned = e ∙ plan_is s msg t (length out) split is
+module _ (s : Server) (msg : Bytes) (t : ℕ) (out : Bytes) (split : Split) (is : IsSplit msg split) {found : Result Plan Refusal} (e : found ≡ kvset_plan s msg split t (length out)) where
+  by_call : found ≡ store_plan (refusal_of s (kvset msg t (length out))) (key_list s) s.header (fields_of msg) t (lifetime s msg t (length out))
+  by_call = e ∙ plan_is s msg t (length out) split is
 
-  pub kvset_stopped : {r : Refusal} → plan ≡ Refuse r → refusal_of s (kvset msg t (length out)) ≡ some r
-  kvset_stopped g = stops_with (refusal_of s (kvset msg t (length out))) (key_list s) s.header (fields_of msg) t (lifetime s msg t (length out)) planned g
+  pub kvset_stopped : {r : Refusal} → found ≡ Err r → refusal_of s (kvset msg t (length out)) ≡ some r
+  kvset_stopped g = stops_with (refusal_of s (kvset msg t (length out))) (key_list s) s.header (fields_of msg) t (lifetime s msg t (length out)) by_call g
 
-  module _ {made : Change} {after : Header} {stored : Stamps} (g : plan ≡ Store made after stored) where
+  module _ {made : Change} {after : Header} {stored : Stamps} (g : found ≡ Ok (record { change = made; after = after; row = stored })) where
+    gone_on : (refusal_of s (kvset msg t (length out)) ≡ none) × (record { change = made; after = after; row = stored } ≡ planned (key_list s) s.header (fields_of msg) t (lifetime s msg t (length out)))
+    gone_on = goes_on (refusal_of s (kvset msg t (length out))) (key_list s) s.header (fields_of msg) t (lifetime s msg t (length out)) by_call g
+
     clear : refusal_of s (kvset msg t (length out)) ≡ none
-    clear = goes_on (refusal_of s (kvset msg t (length out))) (key_list s) s.header (fields_of msg) t (lifetime s msg t (length out)) planned g
+    clear = gone_on.0
 
     made_is : made ≡ change_by (key_list s) (fields_of msg)
-    made_is = goes_with (refusal_of s (kvset msg t (length out))) (key_list s) s.header (fields_of msg) t (lifetime s msg t (length out)) planned g
+    made_is = ap (λ (p : Plan). p.change) gone_on.1
 
     after_is : after ≡ header_after s.header (change_by (key_list s) (fields_of msg)) t
-    after_is = headed_by (refusal_of s (kvset msg t (length out))) (key_list s) s.header (fields_of msg) t (lifetime s msg t (length out)) planned g
+    after_is = ap (λ (p : Plan). p.after) gone_on.1
 
     stored_is : stored ≡ stamps_for (suc s.header.number.0) t (lifetime s msg t (length out))
-    stored_is = stamped_with (refusal_of s (kvset msg t (length out))) (key_list s) s.header (fields_of msg) t (lifetime s msg t (length out)) planned g
+    stored_is = ap (λ (p : Plan). p.row) gone_on.1
 
     pub stored_fits : Fits made s.header.count
     stored_fits = rw made_is (change_is_fit s msg t (length out) clear)

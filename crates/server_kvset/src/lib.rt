@@ -9,6 +9,7 @@ ghost use Rattle.server_calls.specs.Promises.{Answered};
 ghost use Rattle.server_calls.specs.Refusals.{update};
 ghost use Rattle.server_state.specs.Views.{lent};
 
+use answers::answer::Kind;
 use framing::Places;
 use messages::{HEAD, PROPERTIES, UUID, VALUE, write};
 use numbers::sequence::Sequence;
@@ -49,15 +50,15 @@ pub fn kvset_lent(
 {
     let split = framing::split_message(msg);
     match server_updates::plan_kvset(bytes, lengths, stamps, header, msg, split, tick, out.len()) {
-        Plan::Refuse(r) => server_calls::refused(header, r),
-        Plan::Store(change, after, row) => {
+        Err(r) => Outcome::refused(header, r),
+        Ok(Plan { change, after, row }) => {
             let key = framing::body(msg, split.places, HEAD);
             let value = framing::body(msg, split.places, VALUE);
             let fresh = fresh::fresh_row(key, value);
             row_change::change_row(bytes, lengths, change, header.count, fresh);
             row_stamps::change_stamps(stamps, change, header.count, row);
             let written = publish(out, after.number, msg, split.places);
-            server_calls::wrote(after, written)
+            Outcome::accepted(after, Kind::Wrote(after.number), written)
         }
     }
 }

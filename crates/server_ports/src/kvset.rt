@@ -5,25 +5,23 @@ ghost use Rattle.framing.specs.Splits.{body_in};
 ghost use Rattle.ports.specs.Bodies.{fields_at, kvset_by, update_of};
 ghost use Rattle.ports.specs.Ports.{kvset_checks};
 
-use answers::refusal::{Refusal, Verdict};
+use answers::refusal::Refusal;
 use framing::{Places, Split};
 use messages::{FRAMES, HEAD, PROPERTIES, SEQUENCE, UUID, VALUE};
 use numbers::sequence;
-use numbers::sequence::Numbered;
 use ports::frame_count::check_framing;
-use ports::update::{Update, read_payload};
+use ports::update::read_payload;
+use properties::read::Lifetime;
 
 // The frames of a KVSET.
-fn read_kvset_frames(msg: &[u8], places: Places) -> Update
+fn read_kvset_frames(msg: &[u8], places: Places) -> Result<Lifetime, Refusal>
     ensures { result ≡ update_of (body_in msg.now places 3)
         (first_refusal (kvset_checks (fields_at msg.now places))) }
 {
     if !keys::is_key(framing::body(msg, places, HEAD)) {
-        return Update::Refuse(Refusal::BadKey);
+        return Err(Refusal::BadKey);
     }
-    let Numbered::By(_) = sequence::read_sequence(framing::body(msg, places, SEQUENCE)) else {
-        return Update::Refuse(Refusal::BadSequence);
-    };
+    sequence::read_sequence(framing::body(msg, places, SEQUENCE)).ok_or(Refusal::BadSequence)?;
     read_payload(
         framing::body(msg, places, UUID),
         framing::body(msg, places, PROPERTIES),
@@ -32,13 +30,10 @@ fn read_kvset_frames(msg: &[u8], places: Places) -> Update
 }
 
 // The server's port for KVSET: the lifetime that an update asks for.
-pub fn read_kvset(msg: &[u8], split: Split) -> Update
+pub fn read_kvset(msg: &[u8], split: Split) -> Result<Lifetime, Refusal>
     ensures { result ≡ update_of (body_in msg.now split.places 3)
         (first_refusal (kvset_by msg.now split)) }
 {
-    let framing = split.framing;
-    match check_framing(framing, FRAMES) {
-        Verdict::Refuse(r) => Update::Refuse(r),
-        Verdict::Accept => read_kvset_frames(msg, split.places),
-    }
+    check_framing(split.framing, FRAMES)?;
+    read_kvset_frames(msg, split.places)
 }

@@ -1,4 +1,5 @@
 -- Laws of ICANHAZ: the room that a snapshot needs, its checks over the rows, and what the call gives. Assumes nothing.
+use Rattle.std.specs.Prelude.{Result, Ok, Err}
 use Prim.Native.Nat.{ℕ, ◌+◌, ◌≤◌, ◌<◌, min}
 use native.Mathlib.Omega.{arith}
 use mathlib.Core.List.{List, ◌++◌}
@@ -13,8 +14,6 @@ use Rattle.answers.specs.declared.answer.Answer.{Answer}
 use Rattle.answers.specs.declared.answer.Kind.TheVariants.{Refused, Wrote}
 use Rattle.answers.specs.declared.refusal.Refusal.TheVariants.{ShortOutput}
 use Rattle.answers.specs.declared.refusal.Refusal.{Refusal}
-use Rattle.answers.specs.declared.refusal.Verdict.TheVariants.{Accept, Refuse}
-use Rattle.answers.specs.declared.refusal.Verdict.{Verdict}
 use Rattle.base.proofs.CheckLaws.{passed, both_passed}
 use Rattle.base.proofs.OutputLaws.{place, output}
 use Rattle.base.specs.Bytes.{Bytes}
@@ -49,11 +48,11 @@ module _ (rows : Rows ℕ) (room : ℕ) {identity subtree first third : Bytes} (
   needed : need ≡ min (snapshot_length (length first) third rows) largest
   needed = n ∙ rw (i, t)
 
-  pub too_long : room < need → Refuse ShortOutput ≡ verdict (first_refusal (room_checks rows first third room))
+  pub too_long : room < need → Err ShortOutput ≡ verdict (first_refusal (room_checks rows first third room))
   unfolding first_refusal
   too_long h = rw (lt-ltb room (snapshot_length (length first) third rows) (omega (arith, needed)))
 
-  pub has_room : snapshot_length (length first) third rows ≤ 40954 → need ≤ room → Accept ≡ verdict (first_refusal (room_checks rows first third room))
+  pub has_room : snapshot_length (length first) third rows ≤ 40954 → need ≤ room → Ok tt ≡ verdict (first_refusal (room_checks rows first third room))
   unfolding first_refusal
   has_room k h = rw (le-ltb room (snapshot_length (length first) third rows) (omega (arith, needed, k)))
 
@@ -84,12 +83,12 @@ module _ (s : Server) (z : length s.bytes ≡ byte_count) (msg : Bytes) (split :
       ∙ refusal_is s (icanhaz msg room) (request_table room) (λ w. ap (λ (rows : Rows ℕ). first_refusal (icanhaz_port msg ++ room_checks rows (frame_at 0 msg) (frame_at 2 msg) room)) (sym (lengths-held w)))
 
   -- ---- the call
-  module _ (out : Bytes) {found : Verdict} (e : found ≡ verdict (first_refusal (request_checks s msg split (length out)))) where
-    pub snapshot-refused : {r : Refusal} → found ≡ Refuse r → {a : Answer} → a ≡ answer (Refused r s.header.number) 0 → Answered s (icanhaz msg (length out)) out s a out
+  module _ (out : Bytes) {found : Result (Unit {0}) Refusal} (e : found ≡ verdict (first_refusal (request_checks s msg split (length out)))) where
+    pub snapshot-refused : {r : Refusal} → found ≡ Err r → {a : Answer} → a ≡ answer (Refused r s.header.number) 0 → Answered s (icanhaz msg (length out)) out s a out
     snapshot-refused {r} f {a} told =
         refused_call s (icanhaz msg (length out)) out s a r (sym (refusal_so (length out)) ∙ refused r (first_refusal (request_checks s msg split (length out))) (sym f ∙ e)) refl told
 
-    module _ (f : found ≡ Accept) where
+    module _ (f : found ≡ Ok tt) where
       clear : first_refusal (request_checks s msg split (length out)) ≡ none
       clear = accepted (first_refusal (request_checks s msg split (length out))) (sym f ∙ e)
 

@@ -8,7 +8,6 @@ ghost use Rattle.server_state.specs.Views.{lent};
 
 use answers::answer;
 use answers::answer::{Answer, Kind};
-use answers::refusal::Verdict;
 use messages::{IDENTITY, SUBTREE};
 use row_cells::{RowBytes, RowLengths};
 use server_state::{Header, RowStamps};
@@ -32,19 +31,16 @@ pub fn icanhaz_lent<'a>(
         (lent bytes.now lengths.now stamps.now header) result
         out.new }
 {
-    // A slice tells how many bytes it has.
-    let all: &[u8] = bytes;
-    let number = header.number;
     let split = framing::split_message(msg);
     match plan::check_request(bytes, lengths, stamps, header, msg, split, out.len()) {
-        Verdict::Refuse(r) => answer::without_output(Kind::Refused(r, number)),
-        Verdict::Accept => {
+        Err(r) => answer::without_output(Kind::Refused(r, header.number)),
+        Ok(()) => {
             let identity = framing::body(msg, split.places, IDENTITY);
             let subtree = framing::body(msg, split.places, SUBTREE);
             let written = snapshot::write_snapshot(
                 out, bytes, lengths, stamps, header, identity, subtree,
             );
-            answer::with_output(Kind::Wrote(number), written)
+            answer::with_output(Kind::Wrote(header.number), written)
         }
     }
 }

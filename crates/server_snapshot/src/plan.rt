@@ -10,7 +10,7 @@ ghost use Rattle.server_snapshot.specs.Requests.{length_rows, request_checks};
 ghost use Rattle.server_state.specs.Views.{lent};
 
 use crate::snapshot;
-use answers::refusal::{Refusal, Verdict};
+use answers::refusal::Refusal;
 use framing::{Places, Split};
 use messages::{IDENTITY, SUBTREE};
 use row_cells::{RowBytes, RowLengths};
@@ -24,7 +24,7 @@ fn check_room<'a>(
     msg: &'a [u8],
     places: Places,
     room: usize,
-) -> Verdict
+) -> Result<(), Refusal>
     requires { GoodRows count bytes.now lengths.now
         × ((length (body_in msg.now places 0) ≤ 255) × (length (body_in msg.now places 2) ≤ key_room)) }
     ensures { result ≡ verdict (first_refusal (room_checks
@@ -34,9 +34,9 @@ fn check_room<'a>(
     let identity = framing::body(msg, places, IDENTITY);
     let subtree = framing::body(msg, places, SUBTREE);
     if room < snapshot::snapshot_length(bytes, lengths, count, identity.len(), subtree) {
-        return Verdict::Refuse(Refusal::ShortOutput);
+        return Err(Refusal::ShortOutput);
     }
-    Verdict::Accept
+    Ok(())
 }
 
 // The checks of an ICANHAZ in their order.
@@ -48,19 +48,12 @@ pub(crate) fn check_request<'a>(
     msg: &'a [u8],
     split: Split,
     room: usize,
-) -> Verdict
+) -> Result<(), Refusal>
     ensures { result ≡ verdict (first_refusal (request_checks
         (lent bytes.now lengths.now stamps.now header)
         msg.now split room)) }
 {
-    match validate::check_state(bytes, lengths, stamps, header) {
-        Verdict::Refuse(r) => Verdict::Refuse(r),
-        Verdict::Accept => match server_ports::icanhaz::check_icanhaz(msg, split) {
-            Verdict::Refuse(r) => Verdict::Refuse(r),
-            Verdict::Accept => {
-                let places = split.places;
-                check_room(bytes, lengths, header.count, msg, places, room)
-            }
-        },
-    }
+    validate::check_state(bytes, lengths, stamps, header)?;
+    server_ports::icanhaz::check_icanhaz(msg, split)?;
+    check_room(bytes, lengths, header.count, msg, split.places, room)
 }

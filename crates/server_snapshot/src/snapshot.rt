@@ -28,9 +28,7 @@ pub(crate) fn snapshot_length<'a>(
 {
     let head = frame::frame_length(identity);
     let mut total = output::add_lengths(head, message::message_length(7, 0, 0, subtree.len()));
-    let mut i = count;
-    while 0 < i {
-        i -= 1;
+    for i in (0..count).rev() {
         let key = text::key_at(bytes, lengths, i);
         if keys::is_under(subtree, key) {
             let value = text::value_length_at(lengths, i);
@@ -78,8 +76,7 @@ fn write_rows<'a>(
         result out.new }
 {
     let mut at = 0;
-    let mut i = 0;
-    while i < header.count {
+    for i in 0..header.count {
         let key = text::key_at(bytes, lengths, i);
         if keys::is_under(subtree, key) {
             let value = text::value_at(bytes, lengths, i);
@@ -92,7 +89,6 @@ fn write_rows<'a>(
                 value,
             );
         }
-        i += 1;
     }
     at
 }

@@ -1,4 +1,5 @@
 -- A state without rows is well-formed, and its ledger is empty. Assumes nothing.
+use Rattle.std.specs.Prelude.{Result, Ok, Err}
 use Prim.Native.Nat.{ℕ, ◌≤◌}
 use native.Mathlib.Omega.{arith}
 use mathlib.Core.List.{List, zip_with}
@@ -10,8 +11,6 @@ use Rattle.answers.specs.Refusals.{verdict}
 use Rattle.answers.specs.declared.answer.Answer.{Answer}
 use Rattle.answers.specs.declared.answer.Kind.TheVariants.{Refused, Started}
 use Rattle.answers.specs.declared.refusal.Refusal.{Refusal}
-use Rattle.answers.specs.declared.refusal.Verdict.TheVariants.{Accept, Refuse}
-use Rattle.answers.specs.declared.refusal.Verdict.{Verdict}
 use Rattle.base.proofs.CheckLaws.{passed}
 use Rattle.base.specs.Bytes.{Bytes, every}
 use Rattle.base.specs.Checks.{first_refusal}
@@ -38,8 +37,8 @@ module _ (bytes : Bytes) (lengths stamps : List ℕ) where
     empty_good a b = record { rows = no_rows 0 bytes lengths refl; are_stamped = refl; number = a; published = omega arith; tick = b }
 
   -- a start, by what its checks come to
-  module _ (n t : ℕ) {found : Verdict} (e : found ≡ verdict (first_refusal (start_checks n t))) {h : Header} {a : Answer} where
-    pub start-refused : {r : Refusal} → found ≡ Refuse r → h ≡ header_at 0 0 → a ≡ answer (Refused r (sequence 0)) 0 → Began n t (lent bytes lengths stamps h) a
+  module _ (n t : ℕ) {found : Result (Unit {0}) Refusal} (e : found ≡ verdict (first_refusal (start_checks n t))) {h : Header} {a : Answer} where
+    pub start-refused : {r : Refusal} → found ≡ Err r → h ≡ header_at 0 0 → a ≡ answer (Refused r (sequence 0)) 0 → Began n t (lent bytes lengths stamps h) a
     unfolding start_answer start_of start_refusal
     start-refused {r} f header_is told =
         let q = refused r (first_refusal (start_checks n t)) (sym f ∙ e) in
@@ -49,7 +48,7 @@ module _ (bytes : Bytes) (lengths stamps : List ℕ) where
           well_formed = rw header_is (server_good (lent bytes lengths stamps (header_at 0 0)) (empty_good 0 0 (omega arith) (omega arith)));
         }
 
-    pub start-accepted : found ≡ Accept → h ≡ header_at n t → a ≡ answer (Started (sequence n)) 0 → Began n t (lent bytes lengths stamps h) a
+    pub start-accepted : found ≡ Ok tt → h ≡ header_at n t → a ≡ answer (Started (sequence n)) 0 → Began n t (lent bytes lengths stamps h) a
     unfolding start_answer start_of start_refusal
     start-accepted f header_is told =
         let q = accepted (first_refusal (start_checks n t)) (sym f ∙ e) in

@@ -1,5 +1,5 @@
 // The start of a server.
-#![tactic(auto)]
+#![tactic(auto, unfolding(base::specs::Checks::first_refusal))]
 
 ghost use Rattle.std.specs.Prelude.{◌≡◌, replicate};
 ghost use Rattle.answers.specs.Refusals.{verdict};
@@ -11,9 +11,8 @@ ghost use Rattle.server_start.specs.Headers.{header_at};
 ghost use Rattle.server_state.specs.Stamps.{stamp_count};
 ghost use Rattle.server_state.specs.Views.{lent};
 
-use answers::answer;
 use answers::answer::Kind;
-use answers::refusal::{Refusal, Verdict};
+use answers::refusal::Refusal;
 use numbers::sequence::Sequence;
 use numbers::tick::Tick;
 use numbers::{sequence, tick};
@@ -21,16 +20,17 @@ use row_cells::{CELL, LENGTHS, MAX_ROWS, RowBytes, RowLengths};
 use server_calls::Outcome;
 use server_state::{Header, RowStamps, STAMPS};
 
-fn check_start(number: Sequence, tick: Tick) -> Verdict
+// Whether a server may begin at a number and a tick.
+fn check_start(number: Sequence, tick: Tick) -> Result<(), Refusal>
     ensures { result ≡ verdict (first_refusal (start_checks number.0 tick.0)) }
 {
     if !sequence::is_kept(number) {
-        return Verdict::Refuse(Refusal::BadSequence);
+        return Err(Refusal::BadSequence);
     }
     if !tick::is_time(tick) {
-        return Verdict::Refuse(Refusal::BadTick);
+        return Err(Refusal::BadTick);
     }
-    Verdict::Accept
+    Ok(())
 }
 
 // The header of a server without rows.
@@ -64,16 +64,7 @@ pub fn start_lent(
     *lengths = [0; MAX_ROWS * LENGTHS];
     *stamps = [0; MAX_ROWS * STAMPS];
     match check_start(number, tick) {
-        Verdict::Refuse(r) => {
-            let zero = Sequence(0);
-            Outcome {
-                header: first_header(zero, Tick(0)),
-                answer: answer::without_output(Kind::Refused(r, zero)),
-            }
-        }
-        Verdict::Accept => Outcome {
-            header: first_header(number, tick),
-            answer: answer::without_output(Kind::Started(number)),
-        },
+        Err(r) => Outcome::refused(first_header(Sequence(0), Tick(0)), r),
+        Ok(()) => Outcome::accepted(first_header(number, tick), Kind::Started(number), 0),
     }
 }

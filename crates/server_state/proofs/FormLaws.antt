@@ -2,7 +2,7 @@
 use Prim.Native.Nat.{ℕ, ◌+◌, ◌≤◌, ◌<◌}
 use native.Mathlib.Numerals.{add-one}
 use native.Mathlib.Omega.{arith}
-use mathlib.Core.Bool.{Bool, true, false, not, ◌&&◌, and_assoc}
+use mathlib.Core.Bool.{Bool, true, false, not, ◌&&◌}
 use mathlib.Core.List.{List, []}
 use mathlib.Core.Path.{◌≡◌, refl, sym, ap, ◌∙◌}
 use mathlib.Core.Option.{none}
@@ -71,10 +71,9 @@ not_above a b = go (ltb a b) refl
     go false e = sym (le-leb b a (ltb-false a b e))
 
 pub stamped-more : (n : ℕ) (cs : List (List ℕ)) (i : ℕ) (good : Bool) (cell : List ℕ) {above lasts : Bool} → get_or cs i [] ≡ cell → i < length cs → good ≡ every (stamped n) (take i cs)
-    → above ≡ ltb n (stamp_number cell) → lasts ≡ is_expiry (stamp_expiry cell) → (good && not above && lasts) ≡ every (stamped n) (take (i + 1) cs)
+    → above ≡ ltb n (stamp_number cell) → lasts ≡ is_expiry (stamp_expiry cell) → (good && (not above && lasts)) ≡ every (stamped n) (take (i + 1) cs)
 stamped-more n cs i good cell own h e above-is lasts-is =
     rw (above-is, lasts-is, not_above n (stamp_number cell))
-    (and_assoc good (leb (stamp_number cell) n) (is_expiry (stamp_expiry cell))
-    ∙ ap (λ (b : Bool). b && stamped n cell) e
+    (ap (λ (b : Bool). b && stamped n cell) e
     ∙ ap (λ (c : List ℕ). every (stamped n) (take i cs) && stamped n c) (sym own)
     ∙ sym (rw add-one (every_more (stamped n) cs i [] h)))

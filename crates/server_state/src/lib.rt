@@ -1,6 +1,7 @@
 // The state of a server: rows, each with a number and an expiry beside its key and its value; and a header.
 #![tactic(auto)]
 
+use answers::outcome::Numbered;
 use numbers::sequence::Sequence;
 use numbers::tick::Tick;
 use row_cells::{MAX_ROWS, RowBytes, RowLengths};
@@ -26,6 +27,14 @@ pub struct Header {
     pub last_tick: Tick,
     pub last_published: Tick,
     pub count: usize,
+}
+
+impl Numbered for Header {
+    ghost number_of = { λ h. h.number };
+
+    fn number(&self) -> Sequence {
+        self.number
+    }
 }
 
 // Row i has cell i of each array.

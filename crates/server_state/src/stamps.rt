@@ -7,7 +7,6 @@ ghost use Rattle.row_change.specs.Changes.{changed, count_after, Fits};
 ghost use Rattle.server_state.specs.Stamps.{stamp_count, stamp_number, stamp_expiry, stamps_of};
 
 use crate::{EXPIRY, NUMBER, RowStamps, STAMPS};
-use cells::words;
 use numbers::sequence::Sequence;
 use numbers::tick::Tick;
 use row_change::Change;
@@ -19,12 +18,12 @@ pub struct Stamps {
     pub expiry: Tick,
 }
 
-// The number of row i.
+// The number of row i. Number and expiry have a function each, since they are two types.
 pub fn number_at(stamps: &RowStamps, i: usize) -> Sequence
     requires { i < max_rows }
     ensures { result.0 ≡ stamp_number (cell_at stamp_count i stamps.now) }
 {
-    Sequence(words::word_at(stamps, STAMPS, i, NUMBER))
+    Sequence(cells::element_at(stamps, STAMPS, i, NUMBER))
 }
 
 // The expiry of row i.
@@ -32,7 +31,7 @@ pub fn expiry_at(stamps: &RowStamps, i: usize) -> Tick
     requires { i < max_rows }
     ensures { result.0 ≡ stamp_expiry (cell_at stamp_count i stamps.now) }
 {
-    Tick(words::word_at(stamps, STAMPS, i, EXPIRY))
+    Tick(cells::element_at(stamps, STAMPS, i, EXPIRY))
 }
 
 // A change of one of the first count rows. A row that is stored has these stamps.
@@ -41,8 +40,6 @@ pub fn change_stamps(stamps: &mut RowStamps, change: Change, count: usize, row: 
     ensures { cells stamp_count (count_after change count) stamps.new
         ≡ changed change (stamps_of row) (cells stamp_count count stamps.old) }
 {
-    let number = row.number;
-    let expiry = row.expiry;
-    let cell = [number.0, expiry.0];
-    row_change::change_words(stamps, STAMPS, change, count, &cell);
+    let cell = [row.number.0, row.expiry.0];
+    row_change::change_cells(stamps, STAMPS, change, count, &cell, &[]);
 }

@@ -1,5 +1,7 @@
 -- What a Tick makes of a server: by its plan, with nothing to do, with a sign of life, and with a row that expires. The
 -- state stays well-formed. Assumes nothing.
+use Rattle.std.specs.Prelude
+use Rattle.std.specs.Prelude.{Some, None, Result, Ok, Err}
 use Prim.Native.Nat.{ℕ, suc, ◌+◌, ◌-◌, ◌≤◌, ◌<◌}
 use native.Mathlib.Nat.{zero-add}
 use native.Mathlib.Omega.{arith}
@@ -12,7 +14,7 @@ use lib.ListN.{length, get_or}
 use borrow.Author.Tests.{leb-true, ltb-false, eqb-false, not-false}
 use Rattle.answers.specs.Answers.{answer}
 use Rattle.answers.specs.declared.answer.Answer.{Answer}
-use Rattle.answers.specs.declared.answer.Kind.TheVariants.{Wrote, Nothing as Silent}
+use Rattle.answers.specs.declared.answer.Kind.TheVariants.{Wrote, Nothing}
 use Rattle.answers.specs.declared.refusal.Refusal.TheVariants.{BadTick}
 use Rattle.answers.specs.declared.refusal.Refusal.{Refusal}
 use Rattle.base.proofs.CheckLaws.{passed, both_passed}
@@ -22,7 +24,7 @@ use Rattle.base.specs.Checks.{Check, first_refusal}
 use Rattle.base.specs.Output.{put, Written}
 use Rattle.messages.specs.Fields.{bytes_of, hugz}
 use Rattle.numbers.specs.Sequences.{sequence, max_sequence}
-use Rattle.numbers.specs.Ticks.{tick as at, max_tick}
+use Rattle.numbers.specs.Ticks.{max_tick}
 use Rattle.numbers.specs.declared.tick.Tick.{Tick}
 use Rattle.ports.specs.Ports.{tick_checks}
 use Rattle.row_cells.proofs.TextLaws.{key_is}
@@ -48,12 +50,12 @@ use Rattle.server_state.specs.Views.{lent, key_list, entry_list, view, ledger_of
 use Rattle.server_state.specs.declared.Header.{Header}
 use Rattle.server_state.specs.declared.Server.{Server}
 use Rattle.server_deeds.proofs.DuePlaceLaws.{keyed, by_place, due_row-below}
-use Rattle.server_deeds.proofs.PlanLaws.{refuses, goes_on, stops_with}
+use Rattle.server_deeds.proofs.PlanLaws.{goes_on, stops_with}
+use Rattle.server_deeds.specs.DuePlaces.{due_at}
 use Rattle.server_deeds.specs.Plans.{expired_header, beat_header, quiet_header, or_refuse, deed_at, plan_at, due_in, tick_plan}
 use Rattle.server_tick.specs.Expired.{Expired}
-use Rattle.server_deeds.specs.declared.due.Due.TheVariants.{At, Nothing}
 use Rattle.server_deeds.specs.declared.due.Due.{Due}
-use Rattle.server_deeds.specs.declared.Plan.TheVariants.{Refuse, Expire, Beat, Quiet}
+use Rattle.server_deeds.specs.declared.Plan.TheVariants.{Expire, Beat, Quiet}
 use Rattle.server_deeds.specs.declared.Plan.{Plan}
 
 -- for cases that cannot be
@@ -62,47 +64,39 @@ clash z = absurd (omega arith)
 
 -- ---- what there is to do, by the row that is due
 module _ (s : Server) (t : ℕ) where
-  pub never_refuses : (d : Due) → refuses (plan_at s t d) ≡ false
-  never_refuses (At i e) = refl
-  never_refuses Nothing = go (leb 1000 (t - s.header.last_published.0))
-    where
-      go : (b : Bool) → refuses (cond b (Beat (beat_header s.header t)) (Quiet (quiet_header s.header t))) ≡ false
-      go true = refl
-      go false = refl
-
-  quiet_is : {after : Header} (d : Due) → plan_at s t d ≡ Quiet after → (deed_at s t d ≡ quiet) × (after ≡ quiet_header s.header t)
-  quiet_is (At i e) q = clash cc
-  quiet_is {after} Nothing q = go (leb 1000 (t - s.header.last_published.0)) q
+  quiet_is : {after : Header} (d : Prelude.Option Due) → plan_at s t d ≡ Quiet after → (deed_at s t d ≡ quiet) × (after ≡ quiet_header s.header t)
+  quiet_is (Some d) q = clash cc
+  quiet_is {after} None q = go (leb 1000 (t - s.header.last_published.0)) q
     where
       go : (b : Bool) → cond b (Beat (beat_header s.header t)) (Quiet (quiet_header s.header t)) ≡ Quiet after → (cond b beat quiet ≡ quiet) × (after ≡ quiet_header s.header t)
       go true e = clash cc
       go false e = (refl, cc)
 
-  beat_is : {after : Header} (d : Due) → plan_at s t d ≡ Beat after → (deed_at s t d ≡ beat) × (after ≡ beat_header s.header t)
-  beat_is (At i e) q = clash cc
-  beat_is {after} Nothing q = go (leb 1000 (t - s.header.last_published.0)) q
+  beat_is : {after : Header} (d : Prelude.Option Due) → plan_at s t d ≡ Beat after → (deed_at s t d ≡ beat) × (after ≡ beat_header s.header t)
+  beat_is (Some d) q = clash cc
+  beat_is {after} None q = go (leb 1000 (t - s.header.last_published.0)) q
     where
       go : (b : Bool) → cond b (Beat (beat_header s.header t)) (Quiet (quiet_header s.header t)) ≡ Beat after → (cond b beat quiet ≡ beat) × (after ≡ beat_header s.header t)
       go true e = (refl, cc)
       go false e = clash cc
 
-  record Going (d : Due) (i : ℕ) (after : Header) : Type 0 where
+  record Going (d : Prelude.Option Due) (i : ℕ) (after : Header) : Type 0 where
     when_due : Tick
-    is_due : d ≡ At i when_due
+    is_due : d ≡ due_at i when_due
     header_is : after ≡ expired_header s.header t
 
-  expire_is : {i : ℕ} {after : Header} (d : Due) → plan_at s t d ≡ Expire i after → Going d i after
-  expire_is {i} (At j e) q = record { when_due = e; is_due = ap (λ (k : ℕ). At k e) cc; header_is = cc }
-  expire_is {i} {after} Nothing q = go (leb 1000 (t - s.header.last_published.0)) q
+  expire_is : {i : ℕ} {after : Header} (d : Prelude.Option Due) → plan_at s t d ≡ Expire i after → Going d i after
+  expire_is {i} (Some d) q = record { when_due = d.expiry; is_due = ap (λ (k : ℕ). due_at k d.expiry) cc; header_is = cc }
+  expire_is {i} {after} None q = go (leb 1000 (t - s.header.last_published.0)) q
     where
-      go : (b : Bool) → cond b (Beat (beat_header s.header t)) (Quiet (quiet_header s.header t)) ≡ Expire i after → Going Nothing i after
+      go : (b : Bool) → cond b (Beat (beat_header s.header t)) (Quiet (quiet_header s.header t)) ≡ Expire i after → Going None i after
       go true e = clash cc
       go false e = clash cc
 
   -- by place as by the rows
-  keyed_deed : (d : Due) → due_in s t ≡ d → deed_of t s.header.last_published.0 (keyed (key_list s) d) ≡ deed_at s t d
-  keyed_deed (At i e) q = ap expire (key_is s.header.count s.bytes s.lengths i (due_row-below t s.header.count s.stamps refl q))
-  keyed_deed Nothing q = refl
+  keyed_deed : (d : Prelude.Option Due) → due_in s t ≡ d → deed_of t s.header.last_published.0 (keyed (key_list s) d) ≡ deed_at s t d
+  keyed_deed (Some d) q = ap expire (key_is s.header.count s.bytes s.lengths d.at (due_row-below t s.header.count s.stamps refl q))
+  keyed_deed None q = refl
 
   deed_is : t ≤ max_tick → deed (ledger_of (view s)) t ≡ deed_at s t (due_in s t)
   unfolding deed ledger_of view
@@ -164,12 +158,12 @@ unfolding view
 viewed_number s = refl
 
 -- ---- a plan that was made, and what was done by it
-module _ (s : Server) (t : ℕ) (out : Bytes) {plan : Plan} (e : plan ≡ tick_plan s t (length out)) where
-  planned : plan ≡ or_refuse (refusal_of s (tick t (length out))) (plan_at s t (due_in s t))
-  planned = e ∙ plan_is s t (length out)
+module _ (s : Server) (t : ℕ) (out : Bytes) {found : Result Plan Refusal} (e : found ≡ tick_plan s t (length out)) where
+  by_call : found ≡ or_refuse (refusal_of s (tick t (length out))) (plan_at s t (due_in s t))
+  by_call = e ∙ plan_is s t (length out)
 
-  pub tick_stopped : {r : Refusal} → plan ≡ Refuse r → refusal_of s (tick t (length out)) ≡ some r
-  tick_stopped g = stops_with (refusal_of s (tick t (length out))) (plan_at s t (due_in s t)) planned (never_refuses s t (due_in s t)) g
+  pub tick_stopped : {r : Refusal} → found ≡ Err r → refusal_of s (tick t (length out)) ≡ some r
+  tick_stopped g = stops_with (refusal_of s (tick t (length out))) (plan_at s t (due_in s t)) by_call g
 
   -- a call that passes
   accepted-tick : (d : Deed) {s' : Server} {a : Answer} {out' : Bytes} → refusal_of s (tick t (length out)) ≡ none → deed (ledger_of (view s)) t ≡ d
@@ -186,11 +180,11 @@ module _ (s : Server) (t : ℕ) (out : Bytes) {plan : Plan} (e : plan ≡ tick_p
 
   module _ {after : Header} where
     -- a Tick with nothing to do
-    pub tick_quiet : plan ≡ Quiet after → {h : Header} {a : Answer} → (h ≡ after) × (a ≡ answer (Silent after.number) 0)
+    pub tick_quiet : found ≡ Ok (Quiet after) → {h : Header} {a : Answer} → (h ≡ after) × (a ≡ answer (Nothing after.number) 0)
         → Answered s (tick t (length out)) out (lent s.bytes s.lengths s.stamps h) a out
     unfolding tick_bytes tick_next view put entry_list
     tick_quiet g {h} {a} left =
-        let k = goes_on (refusal_of s (tick t (length out))) (plan_at s t (due_in s t)) planned g refl in
+        let k = goes_on (refusal_of s (tick t (length out))) (plan_at s t (due_in s t)) by_call g in
         let p = passing s t (length out) k.0 in
         let q = quiet_is s t (due_in s t) k.1 in
         rw (left.0, q.1)
@@ -198,11 +192,11 @@ module _ (s : Server) (t : ℕ) (out : Bytes) {plan : Plan} (e : plan ≡ tick_p
         (good_later p.good (quiet_header s.header t) refl refl (omega (arith, p.good.published, p.later)) p.in_range))
 
     -- a sign of life
-    pub tick-beat : plan ≡ Beat after → {w : ℕ} {out' : Bytes} → Written out 0 (bytes_of hugz) w out' → {h : Header} {a : Answer} → (h ≡ after) × (a ≡ answer (Wrote after.number) w)
+    pub tick-beat : found ≡ Ok (Beat after) → {w : ℕ} {out' : Bytes} → Written out 0 (bytes_of hugz) w out' → {h : Header} {a : Answer} → (h ≡ after) × (a ≡ answer (Wrote after.number) w)
         → Answered s (tick t (length out)) out (lent s.bytes s.lengths s.stamps h) a out'
     unfolding tick_bytes tick_next view entry_list
     tick-beat g {w} wrote {h} {a} left =
-        let k = goes_on (refusal_of s (tick t (length out))) (plan_at s t (due_in s t)) planned g refl in
+        let k = goes_on (refusal_of s (tick t (length out))) (plan_at s t (due_in s t)) by_call g in
         let p = passing s t (length out) k.0 in
         let q = beat_is s t (due_in s t) k.1 in
         let lets = rw q.0 at p.lets in
@@ -212,9 +206,9 @@ module _ (s : Server) (t : ℕ) (out : Bytes) {plan : Plan} (e : plan ≡ tick_p
         (good_later p.good (beat_header s.header t) refl refl (omega arith) p.in_range))
 
     -- a row that expires
-    module _ {i : ℕ} (g : plan ≡ Expire i after) where
+    module _ {i : ℕ} (g : found ≡ Ok (Expire i after)) where
       both : (refusal_of s (tick t (length out)) ≡ none) × (plan_at s t (due_in s t) ≡ Expire i after)
-      both = goes_on (refusal_of s (tick t (length out))) (plan_at s t (due_in s t)) planned g refl
+      both = goes_on (refusal_of s (tick t (length out))) (plan_at s t (due_in s t)) by_call g
 
       p : Passing s t (length out)
       p = passing s t (length out) both.0

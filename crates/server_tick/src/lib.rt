@@ -8,6 +8,7 @@ ghost use Rattle.server_calls.specs.Promises.{Answered};
 ghost use Rattle.server_state.specs.Views.{lent};
 ghost use Rattle.server_tick.specs.Expired.{Expired};
 
+use answers::answer::Kind;
 use messages::write;
 use numbers::sequence::Sequence;
 use numbers::tick::Tick;
@@ -61,13 +62,15 @@ pub fn tick_lent(
         out.new }
 {
     match server_deeds::plan_tick(bytes, lengths, stamps, header, tick, out.len()) {
-        Plan::Refuse(r) => server_calls::refused(header, r),
-        Plan::Expire(i, after) => {
-            let number = after.number;
-            let written = expire_row(bytes, lengths, stamps, header.count, i, number, out);
-            server_calls::wrote(after, written)
+        Err(r) => Outcome::refused(header, r),
+        Ok(Plan::Expire(i, after)) => {
+            let written = expire_row(bytes, lengths, stamps, header.count, i, after.number, out);
+            Outcome::accepted(after, Kind::Wrote(after.number), written)
         }
-        Plan::Beat(after) => server_calls::wrote(after, write::write_hugz(out, 0)),
-        Plan::Quiet(after) => server_calls::did_nothing(after),
+        Ok(Plan::Beat(after)) => {
+            let written = write::write_hugz(out, 0);
+            Outcome::accepted(after, Kind::Wrote(after.number), written)
+        }
+        Ok(Plan::Quiet(after)) => Outcome::accepted(after, Kind::Nothing(after.number), 0),
     }
 }

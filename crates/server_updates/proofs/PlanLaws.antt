@@ -9,6 +9,8 @@ use mathlib.Core.Path.{◌≡◌, refl, sym, ap, ◌∙◌}
 use lib.Dec.{leb, eqb}
 use lib.ListN.{length}
 use borrow.Author.Tests.{lt-ltb, le-ltb, eq-eqb, ne_eqb}
+use Rattle.std.specs.Prelude
+use Rattle.std.specs.Prelude.{Result, Ok, Err, Some, None}
 use Rattle.answers.specs.declared.refusal.Refusal.TheVariants.{Full, Exhausted, ShortOutput}
 use Rattle.answers.specs.declared.refusal.Refusal.{Refusal}
 use Rattle.base.proofs.ByteLaws.{nil_length}
@@ -25,18 +27,14 @@ use Rattle.properties.proofs.LifetimeLaws.{seconds_most}
 use Rattle.properties.specs.Properties.{properties_of, seconds_of}
 use Rattle.properties.specs.declared.read.Lifetime.TheVariants.{Unlimited, Seconds}
 use Rattle.properties.specs.declared.read.Lifetime.{Lifetime}
-use Rattle.properties.specs.declared.read.Properties.TheVariants.{Good, Malformed}
-use Rattle.properties.specs.declared.read.Properties.{Properties}
 use Rattle.row_cells.specs.Sizes.{max_rows}
 use Rattle.row_change.specs.Changes.{is_over, count_after, Fits}
 use Rattle.row_change.specs.declared.Change.{Change}
 use Rattle.row_search.proofs.FindLaws.{over_is, change_fits}
 use Rattle.row_search.specs.Places.{place_of, change_to, is_found}
-use Rattle.row_search.specs.declared.Found.{Found}
 use Rattle.server_calls.proofs.LengthLaws.{update-length, update_bound}
 use Rattle.server_calls.specs.Refusals.{update}
-use Rattle.server_updates.specs.Plans.{expiry_from, change_by, header_after, stamps_for, store_plan, update_plan}
-use Rattle.server_updates.specs.declared.Plan.TheVariants.{Refuse, Store}
+use Rattle.server_updates.specs.Plans.{expiry_from, change_by, stamps_for, planned, store_plan, update_plan}
 use Rattle.server_updates.specs.declared.Plan.{Plan}
 use Rattle.server_state.specs.Stamps.{max_expiry}
 use Rattle.server_state.specs.declared.Header.{Header}
@@ -46,10 +44,10 @@ use Rattle.server_state.specs.declared.stamps.Stamps.{Stamps}
 pub lifetime_most : (s : Bytes) → seconds_of (lifetime_in (properties_of s)) ≤ 86400
 lifetime_most s = go (properties_of s) refl
   where
-    go : (p : Properties) → properties_of s ≡ p → seconds_of (lifetime_in p) ≤ 86400
-    go Malformed e = omega arith
-    go (Good Unlimited) e = omega arith
-    go (Good (Seconds n)) e = seconds_most s n e
+    go : (p : Prelude.Option Lifetime) → properties_of s ≡ p → seconds_of (lifetime_in p) ≤ 86400
+    go None e = omega arith
+    go (Some Unlimited) e = omega arith
+    go (Some (Seconds n)) e = seconds_most s n e
 
 -- ---- expiries: a lifetime of at most 86,400 seconds after a tick in range is below the largest number
 module _ (t n : ℕ) (l : Lifetime) (seconds : l ≡ Seconds n) (h : t ≤ max_tick) (k : seconds_of l ≤ 86400) where
@@ -60,48 +58,36 @@ module _ (t n : ℕ) (l : Lifetime) (seconds : l ≡ Seconds n) (h : t ≤ max_t
   expires_then is = is ∙ rw seconds (omega (arith, in_range))
 
 -- ---- a plan that goes on has passed all checks, and one that does not tells the first refusal
-module _ (x : Option Refusal) (keys : List Bytes) (h : Header) (f : Fields) (t : ℕ) (lifetime : Lifetime) {plan : Plan} (e : plan ≡ store_plan x keys h f t lifetime) where
-  module _ {made : Change} {after : Header} {row : Stamps} (g : plan ≡ Store made after row) where
-    pub goes_on : x ≡ none
-    goes_on = go x (sym g ∙ e)
-      where
-        go : (y : Option Refusal) → Store made after row ≡ store_plan y keys h f t lifetime → y ≡ none
-        go none q = refl
-        go (some r) q = absurd (let z : ◌≡◌ {A = ℕ} 0 1 = cc in omega arith)
+module _ (x : Option Refusal) (keys : List Bytes) (h : Header) (f : Fields) (t : ℕ) (lifetime : Lifetime) {found : Result Plan Refusal} (e : found ≡ store_plan x keys h f t lifetime) where
+  pub goes_on : {plan : Plan} → found ≡ Ok plan → (x ≡ none) × (plan ≡ planned keys h f t lifetime)
+  goes_on {plan} g = go x (sym g ∙ e)
+    where
+      go : (y : Option Refusal) → Ok plan ≡ store_plan y keys h f t lifetime → (y ≡ none) × (plan ≡ planned keys h f t lifetime)
+      go none q = (refl, cc)
+      go (some r) q = absurd (let z : ◌≡◌ {A = ℕ} 0 1 = cc in omega arith)
 
-    same : Store made after row ≡ store_plan none keys h f t lifetime
-    same = sym g ∙ e ∙ rw goes_on
-
-    pub goes_with : made ≡ change_by keys f
-    goes_with = let s = same in cc
-
-    pub headed_by : after ≡ header_after h (change_by keys f) t
-    headed_by = let s = same in cc
-
-    pub stamped_with : row ≡ stamps_for (suc h.number.0) t lifetime
-    stamped_with = let s = same in cc
-
-  pub stops_with : {r : Refusal} → plan ≡ Refuse r → x ≡ some r
+  pub stops_with : {r : Refusal} → found ≡ Err r → x ≡ some r
   stops_with {r} g = go x (sym g ∙ e)
     where
-      go : (y : Option Refusal) → Refuse r ≡ store_plan y keys h f t lifetime → y ≡ some r
+      go : (y : Option Refusal) → Err r ≡ store_plan y keys h f t lifetime → y ≡ some r
       go none q = absurd (let z : ◌≡◌ {A = ℕ} 0 1 = cc in omega arith)
       go (some o) q = let i : o ≡ r = cc in ap some i
 
 -- ---- an update
-module _ (keys : List Bytes) (h : Header) (f : Fields) (t room : ℕ) (lifetime : Lifetime) {key value : Bytes} (head-is : key ≡ f.head) (value_is : value ≡ f.value) {found : Found} {change : Change}
-    (found-is : found ≡ place_of 0 key keys) (change_is : change ≡ change_to (eqb (length value) 0) found) where
+module _ (keys : List Bytes) (h : Header) (f : Fields) (t room : ℕ) (lifetime : Lifetime) {key value : Bytes} (head-is : key ≡ f.head) (value_is : value ≡ f.value) {found : Result ℕ ℕ} {change : Change}
+    (found-is : found ≡ place_of 0 key keys) {empty : Bool} (empty-is : empty ≡ eqb (length value) 0)
+    (change_is : change ≡ change_to empty found) where
   pub change_right : change ≡ change_by keys f
-  change_right = change_is ∙ rw (nil_length value, found-is, head-is, value_is)
+  change_right = change_is ∙ rw (empty-is, nil_length value, found-is, head-is, value_is)
 
   over : {r : Bool} → r ≡ is_over change h.count → r ≡ (not (is_nil f.value) && (not (is_found (place_of 0 f.head keys)) && leb max_rows h.count))
   over e = e ∙ rw change_right (over_is (is_nil f.value) (place_of 0 f.head keys) h.count)
 
-  abbrev plan : Plan
+  abbrev plan : Result Plan Refusal
   plan = update_plan keys h f t lifetime room
 
   module _ {r : Bool} (o : r ≡ is_over change h.count) where
-    pub full : r ≡ true → Refuse Full ≡ plan
+    pub full : r ≡ true → Err Full ≡ plan
     unfolding first_refusal
     full e = rw (sym (over o) ∙ e)
 
@@ -111,7 +97,7 @@ module _ (keys : List Bytes) (h : Header) (f : Fields) (t room : ℕ) (lifetime 
           rw change_right
           (change_fits f.head keys keys refl h.count long (is_nil f.value) few (over_is (is_nil f.value) (place_of 0 f.head keys) h.count ∙ sym (over o) ∙ e))
 
-      pub exhausted : h.number.0 ≤ max_sequence → max_sequence ≤ h.number.0 → Refuse Exhausted ≡ plan
+      pub exhausted : h.number.0 ≤ max_sequence → max_sequence ≤ h.number.0 → Err Exhausted ≡ plan
       unfolding first_refusal
       exhausted low g = rw (sym (over o) ∙ e, eq-eqb h.number.0 max_sequence (omega arith))
 
@@ -120,19 +106,14 @@ module _ (keys : List Bytes) (h : Header) (f : Fields) (t room : ℕ) (lifetime 
         long : m ≡ min (length (update (suc h.number.0) f)) largest
         long = m-is ∙ rw (head-is, uuid-is, properties-is, value_is, update-length (suc h.number.0) f)
 
-        pub too_short : room < m → Refuse ShortOutput ≡ plan
+        pub too_short : room < m → Err ShortOutput ≡ plan
         unfolding first_refusal
         too_short k =
             rw (sym (over o) ∙ e, ne_eqb h.number.0 max_sequence (λ q. omega arith), lt-ltb room (length (update (suc h.number.0) f)) (omega (arith, long)))
 
         pub goes : first_refusal (kvset_checks f) ≡ none → m ≤ room → {next : Sequence} → next ≡ sequence (suc h.number.0) → {n : ℕ} → n ≡ count_after change h.count → {row : Stamps} → row ≡ stamps_for next.0 t lifetime
-            → Store change (record { number = next; last_tick = tick t; last_published = tick t; count = n }) row ≡ plan
+            → Ok (record { change = change; after = record { number = next; last_tick = tick t; last_published = tick t; count = n }; row = row }) ≡ plan
         unfolding first_refusal
         goes c k {next} next_is {n} n-is {row} row_is =
             rw (sym (over o) ∙ e, ne_eqb h.number.0 max_sequence (λ q. omega arith), le-ltb room (length (update (suc h.number.0) f)) (omega (arith, long, update_bound (suc h.number.0) f c)))
-            (made next_is (n-is ∙ ap (λ (b : Change). count_after b h.count) change_right) (row_is ∙ ap (λ (q : Sequence). stamps_for q.0 t lifetime) next_is))
-          where
-            made : next ≡ sequence (suc h.number.0) → n ≡ count_after (change_by keys f) h.count → row ≡ stamps_for (suc h.number.0) t lifetime
-                → Store change (record { number = next; last_tick = tick t; last_published = tick t; count = n }) row
-                ≡ Store (change_by keys f) (header_after h (change_by keys f) t) (stamps_for (suc h.number.0) t lifetime)
-            made a b d = rw (a, b, d) (ap (λ (x : Change). Store x (header_after h (change_by keys f) t) (stamps_for (suc h.number.0) t lifetime)) change_right)
+            (rw (row_is, n-is, next_is, change_right))

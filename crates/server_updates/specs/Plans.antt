@@ -1,6 +1,6 @@
 -- What a KVSET is found to come to before it is done: its refusal, or the change of a row, the header after it, and the
 -- stamps of a row that is set.
-use Rattle.std.specs.Prelude.{ℕ, suc, ◌+◌, ◌*◌, ◌≤◌, List, ◌++◌, ◌≡◌}
+use Rattle.std.specs.Prelude.{ℕ, suc, ◌+◌, ◌*◌, ◌≤◌, List, ◌++◌, ◌≡◌, Result, Ok, Err}
 use Rattle.std.proofs.Math.Option.{Option, none, some}
 use Rattle.answers.specs.declared.refusal.Refusal.{Refusal}
 use Rattle.base.specs.Bytes.{Bytes, is_nil}
@@ -19,7 +19,6 @@ use Rattle.row_change.specs.Changes.{count_after}
 use Rattle.row_change.specs.declared.Change.{Change}
 use Rattle.row_search.specs.Places.{place_of, is_found, change_to}
 use Rattle.server_calls.specs.Refusals.{store_checks}
-use Rattle.server_updates.specs.declared.Plan.TheVariants.{Refuse, Store}
 use Rattle.server_updates.specs.declared.Plan.{Plan}
 use Rattle.server_state.specs.IllFormed.{ill_forms}
 use Rattle.server_state.specs.Stamps.{never}
@@ -46,20 +45,25 @@ header_after h change t =
 abbrev pub stamps_for : ℕ → ℕ → Lifetime → Stamps
 stamps_for n t lifetime = record { number = sequence n; expiry = tick (expiry_from t lifetime) }
 
--- a refusal, or what is to be done
-abbrev pub store_plan : Option Refusal → List Bytes → Header → Fields → ℕ → Lifetime → Plan
-store_plan none keys h f t lifetime = Store (change_by keys f) (header_after h (change_by keys f) t) (stamps_for (suc h.number.0) t lifetime)
-store_plan (some r) keys h f t lifetime = Refuse r
+-- what is to be done
+abbrev pub planned : List Bytes → Header → Fields → ℕ → Lifetime → Plan
+planned keys h f t lifetime =
+    record { change = change_by keys f; after = header_after h (change_by keys f) t; row = stamps_for (suc h.number.0) t lifetime }
+
+-- a refusal, or that
+abbrev pub store_plan : Option Refusal → List Bytes → Header → Fields → ℕ → Lifetime → Result Plan Refusal
+store_plan none keys h f t lifetime = Ok (planned keys h f t lifetime)
+store_plan (some r) keys h f t lifetime = Err r
 
 -- what a KVSET refuses once its tick is good
 abbrev pub update_table : List Bytes → Header → Fields → ℕ → List (Check Refusal)
 update_table keys h f room = store_checks (is_found (place_of 0 f.head keys)) h.count h.number.0 f room
 
-abbrev pub update_plan : List Bytes → Header → Fields → ℕ → Lifetime → ℕ → Plan
+abbrev pub update_plan : List Bytes → Header → Fields → ℕ → Lifetime → ℕ → Result Plan Refusal
 update_plan keys h f t lifetime room = store_plan (first_refusal (update_table keys h f room)) keys h f t lifetime
 
 -- of a state, a message with its split, a tick and the length of the output
-unfoldable pub kvset_plan : Server → Bytes → Split → ℕ → ℕ → Plan
+unfoldable pub kvset_plan : Server → Bytes → Split → ℕ → ℕ → Result Plan Refusal
 kvset_plan s msg split t room =
     store_plan
     (first_refusal (ill_forms s ++ (kvset_by msg split ++ (tick_checks s.header.last_tick.0 t ++ update_table (key_list s) s.header (fields_at msg split.places) room))))

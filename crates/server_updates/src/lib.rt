@@ -10,25 +10,25 @@ ghost use Rattle.row_cells.specs.Texts.{keys_of};
 ghost use Rattle.server_updates.specs.Plans.{expiry_from, stamps_for, kvset_plan, update_plan, Ready};
 ghost use Rattle.server_state.specs.Views.{lent};
 
-use answers::refusal::{Refusal, Verdict};
+use answers::refusal::Refusal;
 use framing::{Places, Split};
 use messages::{HEAD, PROPERTIES, UUID, VALUE, write};
-use numbers::sequence::{Following, Sequence};
+use numbers::sequence::Sequence;
 use numbers::tick::Tick;
 use numbers::{sequence, tick};
 use ports::time;
-use ports::update::Update;
 use properties::read::Lifetime;
 use row_cells::{RowBytes, RowLengths};
 use row_change::Change;
 use server_state::stamps::Stamps;
 use server_state::{Header, RowStamps, expiry, validate};
 
-// It is refused; or a row changes, under the header after the call. A row that is set has the stamps.
+// A row changes, under the header after the call. A row that is set has the stamps.
 #[derive(Clone, Copy)]
-pub enum Plan {
-    Refuse(Refusal),
-    Store(Change, Header, Stamps),
+pub struct Plan {
+    pub change: Change,
+    pub after: Header,
+    pub row: Stamps,
 }
 
 // When a row that is set at a tick expires, by its lifetime.
@@ -63,35 +63,32 @@ fn plan_update<'a>(
     tick: Tick,
     lifetime: Lifetime,
     room: usize,
-) -> Plan
+) -> Result<Plan, Refusal>
     requires { Ready bytes.now lengths.now header (fields_at msg.now places) tick.0 lifetime }
     ensures { result ≡ update_plan (keys_of header.count bytes.now lengths.now) header
         (fields_at msg.now places) tick.0 lifetime room }
 {
-    let number = header.number;
-    let count = header.count;
     let key = framing::body(msg, places, HEAD);
     let value = framing::body(msg, places, VALUE);
-    let found = row_search::find_row(bytes, lengths, count, key);
-    let change = row_search::change_to(value.len() == 0, found);
-    if row_change::overfills(change, count) {
-        return Plan::Refuse(Refusal::Full);
+    let found = row_search::find_row(bytes, lengths, header.count, key);
+    let change = row_search::change_to(value.is_empty(), found);
+    if row_change::overfills(change, header.count) {
+        return Err(Refusal::Full);
     }
-    let Following::Next(next) = sequence::next_number(number) else {
-        return Plan::Refuse(Refusal::Exhausted);
-    };
+    let next = sequence::next_number(header.number).ok_or(Refusal::Exhausted)?;
     let uuid = framing::body(msg, places, UUID);
     let properties = framing::body(msg, places, PROPERTIES);
     if room < write::message_length(key.len(), uuid.len(), properties.len(), value.len()) {
-        return Plan::Refuse(Refusal::ShortOutput);
+        return Err(Refusal::ShortOutput);
     }
     let after = Header {
         number: next,
         last_tick: tick,
         last_published: tick,
-        count: row_change::count_after(change, count),
+        count: row_change::count_after(change, header.count),
     };
-    Plan::Store(change, after, stamps_of(next, tick, lifetime))
+    let row = stamps_of(next, tick, lifetime);
+    Ok(Plan { change, after, row })
 }
 
 // The checks of a KVSET in their order, and the change that it makes where it passes them.
@@ -104,23 +101,22 @@ pub fn plan_kvset<'a>(
     split: Split,
     tick: Tick,
     room: usize,
-) -> Plan
+) -> Result<Plan, Refusal>
     ensures { result ≡ kvset_plan
         (lent bytes.now lengths.now stamps.now header)
         msg.now split tick.0 room }
 {
-    let last = header.last_tick;
-    match validate::check_state(bytes, lengths, stamps, header) {
-        Verdict::Refuse(r) => Plan::Refuse(r),
-        Verdict::Accept => match server_ports::kvset::read_kvset(msg, split) {
-            Update::Refuse(r) => Plan::Refuse(r),
-            Update::Lasting(lifetime) => match time::check_tick(last, tick) {
-                Verdict::Refuse(r) => Plan::Refuse(r),
-                Verdict::Accept => {
-                    let places = split.places;
-                    plan_update(bytes, lengths, header, msg, places, tick, lifetime, room)
-                }
-            },
-        },
-    }
+    validate::check_state(bytes, lengths, stamps, header)?;
+    let lifetime = server_ports::kvset::read_kvset(msg, split)?;
+    time::check_tick(header.last_tick, tick)?;
+    plan_update(
+        bytes,
+        lengths,
+        header,
+        msg,
+        split.places,
+        tick,
+        lifetime,
+        room,
+    )
 }

@@ -24,14 +24,9 @@ mod desk;
 mod session;
 mod studio;
 
+use script::input;
 use std::io;
-use std::io::Read;
-
-// At most so many bytes of standard input are read.
-const LINES: u64 = 65536;
 
 fn main(rt: HostRuntime) -> io::Result<()> {
-    let mut lines = Vec::new(rt.alloc());
-    rt.reader().take(LINES).read_to_end(&mut lines)?;
-    session::run(&rt, &lines)
+    session::run(&rt, &input::read(rt.alloc(), rt.reader())?)
 }

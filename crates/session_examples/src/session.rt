@@ -1,4 +1,6 @@
-// The lines of a session, each of which is done and told.
+// The lines of a session, each of which is done and told. Messages lie in fixed arrays, since the entries write into
+// lent bytes and give a length.
+use crate::desk::Desk;
 use crate::studio::Studio;
 use crate::{desk, studio};
 use base::{bytes, output};
@@ -8,96 +10,77 @@ use std::io;
 
 // The session that some lines tell.
 pub(crate) fn run(rt: &impl Print, s: &[u8]) -> io::Result<()> {
-    let mut all = empty(rt)?;
-    let mut i = 0;
-    while i < s.len() {
-        let rest = &s[i..];
-        let end = text::place(rest, b'\n');
-        all = step(rt, all, bytes::front(rest, end))?;
-        i = i + end + 1;
+    let mut all = Studio::begin(rt)?;
+    for l in s.split(|b| *b == b'\n') {
+        step(rt, &mut all, l)?;
     }
     Ok(())
 }
 
-// Before anything is told: a server and two desks that have started with nothing.
-fn empty(rt: &impl Print) -> io::Result<Studio> {
-    print::text(rt, b"Before the session:\n")?;
-    let server = studio::begin_server(rt, 0, 0)?;
-    let seven = desk::begin(rt, b"7", b"", 0)?;
-    let seventy = desk::begin(rt, b"70", b"", 0)?;
-    Ok(Studio {
-        server,
-        seven,
-        seventy,
-        room: 521,
-    })
-}
-
-fn step(rt: &impl Print, s: Studio, l: &[u8]) -> io::Result<Studio> {
-    if l.len() == 0 {
-        return Ok(s);
-    }
-    let word = l[0];
-    match word {
-        b'b' => server(rt, s, l),
-        b'd' => start(rt, s, l),
-        b'u' => update(rt, s, l),
-        b's' => set(rt, s, l),
-        b't' => studio::tell(rt, s, line::number(line::field(l, 1))),
-        b'j' => join(rt, s, l, line::field(l, 1)),
-        b'e' => join(rt, s, l, line::field(l, 3)),
-        b'i' => ask_server(rt, s, l),
-        b'm' => message(rt, s, l),
-        b'p' => published(rt, s, l),
-        b'l' => look_up(rt, s, l),
-        b'a' => ask(rt, s, l),
-        b'r' => Ok(room(s, l)),
-        _ => heading(rt, s, l),
+// A word is known by its first letter alone, so the letter is matched and not the word.
+fn step(rt: &impl Print, s: &mut Studio, l: &[u8]) -> io::Result<()> {
+    match l.first() {
+        None => Ok(()),
+        Some(b'b') => server(rt, s, l),
+        Some(b'd') => start(rt, s, l),
+        Some(b'u') => update(rt, s, l),
+        Some(b's') => set(rt, s, l),
+        Some(b't') => s.tell(rt, number(l, 1)),
+        Some(b'j') => join(rt, s, l, line::field(l, 1)),
+        Some(b'e') => join(rt, s, l, line::field(l, 3)),
+        Some(b'i') => ask_server(rt, s, l),
+        Some(b'm') => message(rt, s, l),
+        Some(b'p') => published(rt, s, l),
+        Some(b'l') => look_up(rt, s, l),
+        Some(b'a') => ask(rt, s, l),
+        Some(b'r') => {
+            s.room = number(l, 1) as usize;
+            Ok(())
+        }
+        Some(_) => print::heading(rt, bytes::behind(l, 2)),
     }
 }
 
-fn heading(rt: &impl Print, s: Studio, l: &[u8]) -> io::Result<Studio> {
-    print::heading(rt, bytes::behind(l, 2))?;
-    Ok(s)
+// Field k of a line as a number.
+fn number(l: &[u8], k: usize) -> u64 {
+    line::number(line::field(l, k))
 }
 
-fn server(rt: &impl Print, mut s: Studio, l: &[u8]) -> io::Result<Studio> {
-    let number = line::number(line::field(l, 1));
-    let state = studio::begin_server(rt, number, line::number(line::field(l, 2)))?;
-    s.server = state;
-    Ok(s)
+// The desk of a name.
+fn desk<'n, 's>(s: &'s mut Studio, name: &'n [u8]) -> Desk<'n, 's> {
+    let client = s.client(name);
+    Desk { name, client }
 }
 
-fn start(rt: &impl Print, s: Studio, l: &[u8]) -> io::Result<Studio> {
-    let at = line::number(line::field(l, 3));
-    let c = desk::begin(rt, line::field(l, 1), line::field(l, 2), at)?;
-    Ok(studio::with_desk(s, line::field(l, 1), c))
+fn server(rt: &impl Print, s: &mut Studio, l: &[u8]) -> io::Result<()> {
+    s.server = studio::begin_server(rt, number(l, 1), number(l, 2))?;
+    Ok(())
+}
+
+fn start(rt: &impl Print, s: &mut Studio, l: &[u8]) -> io::Result<()> {
+    let name = line::field(l, 1);
+    let started = desk::begin(rt, name, line::field(l, 2), number(l, 3))?;
+    *s.client(name) = started;
+    Ok(())
 }
 
 // A desk writes KVSET, and the server takes it.
-fn update(rt: &impl Print, s: Studio, l: &[u8]) -> io::Result<Studio> {
+fn update(rt: &impl Print, s: &mut Studio, l: &[u8]) -> io::Result<()> {
     let mut out = [0; 521];
     let n = asked(rt, s, l, &mut out)?;
     if n == 0 {
-        return Ok(s);
+        return Ok(());
     }
-    studio::set(
-        rt,
-        s,
-        bytes::front(&out, n),
-        line::number(line::field(l, 6)),
-    )
+    s.set(rt, bytes::front(&out, n), number(l, 6))
 }
 
 // The KVSET of a line. It gives its length.
-fn asked(rt: &impl Print, s: Studio, l: &[u8], out: &mut [u8]) -> io::Result<usize> {
+fn asked(rt: &impl Print, s: &mut Studio, l: &[u8], out: &mut [u8]) -> io::Result<usize> {
     let mut properties = [0; 512];
-    let room = s.room;
     let n = text::decode(line::field(l, 4), &mut properties);
-    desk::update(
+    let room = s.room;
+    desk(s, line::field(l, 1)).update(
         rt,
-        studio::desk_of(s, line::field(l, 1)),
-        line::field(l, 1),
         line::field(l, 2),
         line::field(l, 3),
         bytes::front(&properties, n),
@@ -107,125 +90,74 @@ fn asked(rt: &impl Print, s: Studio, l: &[u8], out: &mut [u8]) -> io::Result<usi
 }
 
 // A message at the server's entry for KVSET.
-fn set(rt: &impl Print, s: Studio, l: &[u8]) -> io::Result<Studio> {
+fn set(rt: &impl Print, s: &mut Studio, l: &[u8]) -> io::Result<()> {
     let mut msg = [0; 1024];
     let n = told(rt, l, 2, &mut msg)?;
-    studio::set(
-        rt,
-        s,
-        bytes::front(&msg, n),
-        line::number(line::field(l, 1)),
-    )
+    s.set(rt, bytes::front(&msg, n), number(l, 1))
 }
 
 // The snapshot that the desk of a line asks for is handed to a desk.
-fn join(rt: &impl Print, s: Studio, l: &[u8], to: &[u8]) -> io::Result<Studio> {
+fn join(rt: &impl Print, s: &mut Studio, l: &[u8], to: &[u8]) -> io::Result<()> {
     let mut out = [0; 40953];
     let n = snapshot(rt, s, l, &mut out)?;
-    let c = desk::take_all(rt, studio::desk_of(s, to), to, bytes::front(&out, n))?;
-    Ok(studio::with_desk(s, to, c))
+    desk(s, to).take_all(rt, bytes::front(&out, n))
 }
 
 // The answer to the request of a desk, in front of which the router puts the desk's identity. It gives its length.
-fn snapshot(rt: &impl Print, s: Studio, l: &[u8], out: &mut [u8]) -> io::Result<usize> {
+fn snapshot(rt: &impl Print, s: &mut Studio, l: &[u8], out: &mut [u8]) -> io::Result<usize> {
     let mut request = [0; 108];
     let mut routed = [0; 512];
-    let from = line::field(l, 1);
     let room = s.room;
-    let n = desk::request(
-        rt,
-        studio::desk_of(s, from),
-        from,
-        studio::cut(&mut request, room),
-    )?;
+    let n = desk(s, line::field(l, 1)).request(rt, studio::cut(&mut request, room))?;
     if n == 0 {
         return Ok(0);
     }
     let front = identity::write_identity(&mut routed, 0, line::field(l, 2));
     let end = output::put_bytes(&mut routed, front, bytes::front(&request, n));
-    let server = s.server;
-    studio::answer(rt, server, bytes::front(&routed, end), out)
+    s.answer(rt, bytes::front(&routed, end), out)
 }
 
 // A message at the server's entry for ICANHAZ.
-fn ask_server(rt: &impl Print, s: Studio, l: &[u8]) -> io::Result<Studio> {
+fn ask_server(rt: &impl Print, s: &Studio, l: &[u8]) -> io::Result<()> {
     let mut msg = [0; 1024];
     let mut out = [0; 512];
     let n = told(rt, l, 1, &mut msg)?;
-    let room = s.room;
-    let server = s.server;
-    let written = studio::answer(
-        rt,
-        server,
-        bytes::front(&msg, n),
-        studio::cut(&mut out, room),
-    )?;
-    print::hex(rt, b"  it writes", bytes::front(&out, written))?;
-    Ok(s)
+    let written = s.answer(rt, bytes::front(&msg, n), studio::cut(&mut out, s.room))?;
+    print::hex(rt, b"  it writes", bytes::front(&out, written))
 }
 
 // A message at the snapshot entry.
-fn message(rt: &impl Print, s: Studio, l: &[u8]) -> io::Result<Studio> {
+fn message(rt: &impl Print, s: &mut Studio, l: &[u8]) -> io::Result<()> {
     let mut msg = [0; 1024];
     let n = told(rt, l, 2, &mut msg)?;
-    let name = line::field(l, 1);
-    let c = desk::take(rt, studio::desk_of(s, name), name, bytes::front(&msg, n))?;
-    Ok(studio::with_desk(s, name, c))
+    desk(s, line::field(l, 1)).take(rt, bytes::front(&msg, n))
 }
 
 // A message at the subscriber entry.
-fn published(rt: &impl Print, s: Studio, l: &[u8]) -> io::Result<Studio> {
+fn published(rt: &impl Print, s: &mut Studio, l: &[u8]) -> io::Result<()> {
     let mut msg = [0; 1024];
     let n = told(rt, l, 3, &mut msg)?;
-    let name = line::field(l, 1);
-    let at = line::number(line::field(l, 2));
-    let c = desk::follow(
-        rt,
-        studio::desk_of(s, name),
-        name,
-        bytes::front(&msg, n),
-        at,
-    )?;
-    Ok(studio::with_desk(s, name, c))
+    desk(s, line::field(l, 1)).follow(rt, bytes::front(&msg, n), number(l, 2))
 }
 
 // The message whose frames are behind k bars. It gives its length.
 fn told(rt: &impl Print, l: &[u8], k: usize, msg: &mut [u8]) -> io::Result<usize> {
-    print::text(rt, b"a message ")?;
-    print::text(rt, line::behind_bars(l, k))?;
-    print::text(rt, b"\n")?;
-    Ok(message::write_frames(line::behind_bars(l, k), msg))
+    let frames = line::behind_bars(l, k);
+    print!(rt; "a message ")?;
+    print::text(rt, frames)?;
+    println!(rt)?;
+    Ok(message::write_frames(frames, msg))
 }
 
-fn look_up(rt: &impl Print, s: Studio, l: &[u8]) -> io::Result<Studio> {
+fn look_up(rt: &impl Print, s: &mut Studio, l: &[u8]) -> io::Result<()> {
     let mut out = [b'.'; 16];
-    let name = line::field(l, 1);
     let room = s.room;
-    desk::look_up(
-        rt,
-        studio::desk_of(s, name),
-        name,
-        line::field(l, 2),
-        studio::cut(&mut out, room),
-    )?;
-    print::text(rt, b"  the output holds ")?;
+    desk(s, line::field(l, 1)).look_up(rt, line::field(l, 2), studio::cut(&mut out, room))?;
+    print!(rt; "  the output holds ")?;
     print::text(rt, &out)?;
-    print::text(rt, b"\n")?;
-    Ok(s)
+    println!(rt)
 }
 
-fn ask(rt: &impl Print, s: Studio, l: &[u8]) -> io::Result<Studio> {
-    let name = line::field(l, 1);
-    desk::ask(
-        rt,
-        studio::desk_of(s, name),
-        name,
-        line::number(line::field(l, 2)),
-    )?;
-    Ok(s)
-}
-
-fn room(mut s: Studio, l: &[u8]) -> Studio {
-    s.room = line::number(line::field(l, 1)) as usize;
-    s
+fn ask(rt: &impl Print, s: &mut Studio, l: &[u8]) -> io::Result<()> {
+    desk(s, line::field(l, 1)).ask(rt, number(l, 2))
 }

@@ -6,44 +6,32 @@ use parts::build::Built;
 use script::{line, text};
 use std::io;
 
+// What is built lies in a fixed buffer, since a line says how much of it may be used.
 pub(crate) fn build_line(rt: &impl Print, s: &[u8]) -> io::Result<()> {
     let mut buffer = [9; 1024];
     let room = line::number(line::field(s, 1)) as usize;
-    let built = put_within(&mut buffer, room, line::behind_bars(s, 2));
+    let built = match buffer.get_mut(..room) {
+        Some(buffer) => put_parts(buffer, line::behind_bars(s, 2)),
+        None => Built::Void,
+    };
     stage(rt, built)?;
-    judge::judge(
-        rt,
-        line::field(s, 0),
-        bytes::front(&buffer, build::length_of(built)),
-    )
-}
-
-// Only the first so many bytes of a buffer are used.
-fn put_within(buffer: &mut [u8], room: usize, s: &[u8]) -> Built {
-    if buffer.len() < room {
-        return Built::Void;
-    }
-    put_parts(&mut buffer[..room], s)
+    let msg = bytes::front(&buffer, build::length_of(built));
+    judge::judge(rt, line::field(s, 0), msg)
 }
 
 fn stage(rt: &impl Print, built: Built) -> io::Result<()> {
     match built {
-        Built::Open(n) => print::number(rt, b"open, bytes ", n as u64)?,
-        Built::Whole(n) => print::number(rt, b"whole, bytes ", n as u64)?,
-        Built::Void => print::text(rt, b"void")?,
+        Built::Open(n) => print!(rt; "open, bytes {n}; "),
+        Built::Whole(n) => print!(rt; "whole, bytes {n}; "),
+        Built::Void => print!(rt; "void; "),
     }
-    print::text(rt, b"; ")
 }
 
+// The parts, each of which a bar may end.
 fn put_parts(buffer: &mut [u8], s: &[u8]) -> Built {
     let mut built = Built::Open(0);
-    let mut i = 0;
-    while i < s.len() {
-        let rest = &s[i..];
-        let bar = text::place(rest, b'|');
-        let next = put_text(buffer, built, bytes::front(rest, bar));
-        built = next;
-        i = i + bar + 1;
+    for part in s.split_inclusive(|b| *b == b'|') {
+        built = put_text(buffer, built, line::field(part, 0));
     }
     built
 }
@@ -52,25 +40,15 @@ fn put_parts(buffer: &mut [u8], s: &[u8]) -> Built {
 fn put_text(buffer: &mut [u8], built: Built, s: &[u8]) -> Built {
     let mut body = [b'x'; 4096];
     let n = part_of(bytes::behind(s, 1), &mut body);
-    build::put_part(
-        buffer,
-        built,
-        bytes::starts_with(s, b"+"),
-        bytes::front(&body, n),
-    )
+    let more = s.starts_with(b"+");
+    build::put_part(buffer, built, more, bytes::front(&body, n))
 }
 
-// The bytes of a part, and their number.
+// Puts the bytes of a part into an array that is full of x, and gives their number.
 fn part_of(s: &[u8], out: &mut [u8]) -> usize {
-    if bytes::starts_with(s, b"*") {
-        return line::number(bytes::behind(s, 1)) as usize;
+    match s {
+        [b'*', times @ ..] => line::number(times) as usize,
+        [b'#', digits @ ..] => output::put_bytes(out, 0, &octets::octets_of(line::number(digits))),
+        _ => text::decode(s, out),
     }
-    if bytes::starts_with(s, b"#") {
-        return output::put_bytes(
-            out,
-            0,
-            &octets::octets_of(line::number(bytes::behind(s, 1))),
-        );
-    }
-    text::decode(s, out)
 }

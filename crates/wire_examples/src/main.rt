@@ -15,19 +15,16 @@ mod judge;
 
 use base::bytes;
 use numbers::sequence::Sequence;
+use script::input;
 use std::io;
-use std::io::Read;
-
-// At most so many bytes of standard input are read.
-const LINES: u64 = 65536;
 
 fn main(rt: HostRuntime) -> io::Result<()> {
     written(&rt)?;
-    let mut lines = Vec::new(rt.alloc());
-    rt.reader().take(LINES).read_to_end(&mut lines)?;
-    judge::judge_lines(&rt, &lines)
+    judge::judge_lines(&rt, &input::read(rt.alloc(), rt.reader())?)
 }
 
+// Output lies in fixed arrays here, since the writers write into lent bytes and give a length.
+//
 // HUGZ, a KVPUB of 33 bytes, and the answer to a snapshot request: a KVSYNC and a KTHXBAI, each behind the identity.
 fn written(rt: &impl Print) -> io::Result<()> {
     let mut out = [0; 128];

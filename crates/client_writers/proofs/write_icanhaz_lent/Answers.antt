@@ -1,21 +1,23 @@
--- `client_writers::write_icanhaz_lent` meets its contract: the state, the phase, and then the message, if there is room
--- for it. Assumes nothing.
+-- `client_writers::write_icanhaz_lent` meets its contract: what is refused, and then the message, if there is room for it.
+-- Assumes nothing.
 use mathlib.Core.List.{List}
+use mathlib.Core.Path.{sym, ◌∙◌}
 use lib.ListN.{length}
+use Rattle.answers.proofs.VerdictLaws.{accepted, refused}
 use Rattle.answers.specs.declared.answer.Kind.TheVariants.{Wrote}
 use Rattle.answers.specs.declared.refusal.Refusal.{Refusal}
 use Rattle.base.specs.Bytes.{Bytes}
 use Rattle.base.specs.Checks.{Check}
-use Rattle.client_calls.proofs.QueryLaws.{Puts, found_ill, found_well, put_refused, put_done}
+use Rattle.client_calls.proofs.QueryLaws.{Puts, put_refused, put_done}
 use Rattle.client_calls.specs.Calls.{Call, write_icanhaz}
-use Rattle.client_state.specs.IllFormed.{WellFormed}
 use Rattle.client_state.specs.Views.{lent, subtree_of}
 use Rattle.client_state.specs.declared.Client.{Client}
-use Rattle.client_writers.proofs.WriterLaws.{phase_check, phase_stops, phase_passes, icanhaz_puts}
+use Rattle.client_writers.proofs.WriterLaws.{icanhaz_puts}
+use Rattle.client_writers.specs.Phases.{phase_check}
 use Rattle.messages.specs.Fields.{icanhaz}
 use Rattle.numbers.specs.declared.sequence.Sequence.{Sequence}
 use Rattle.client_writers.proofs.write_icanhaz_lent.Goals as goal
-use Rattle.client_writers.proofs.write_icanhaz_lent.Goals.{In-Accept, Start}
+use Rattle.client_writers.proofs.write_icanhaz_lent.Goals.{Start}
 
 abbrev state : (c : Start) → Client
 state s = lent s.args.bytes.now s.args.lengths.now s.args.subtree.now s.args.header
@@ -35,20 +37,12 @@ message s = icanhaz (subtree_of (state s))
 puts : (s : Start) → Puts (state s) (call s) (checks s) (message s) (length s.args.out.now) (Wrote (number s))
 puts s = icanhaz_puts (state s) (length s.args.out.now)
 
-well : (c : In-Accept) → WellFormed (state ((goal.at.In-Accept c).Start))
-well c = found_well (state ((goal.at.In-Accept c).Start)) c.check_state.ensures c.in-Accept.is
+pub returns-in-Err : goal.returns-in-Err
+returns-in-Err c =
+    let s = (goal.at.returns-in-Err c).Start in
+    put_refused (state s) (call s) (checks s) (message s) s.args.out.now (Wrote (number s)) (puts s) (refused _ _ (sym c.in-Err.is ∙ c.check_icanhaz.ensures)) c.without_output.ensures
 
-pub returns-then-phase-ne-WAITING : goal.returns-then-phase-ne-WAITING
-returns-then-phase-ne-WAITING c =
-    let s = (goal.at.returns-then-phase-ne-WAITING c).Start in
-    put_refused (state s) (well ((goal.at.returns-then-phase-ne-WAITING c).In-Accept)) (call s) (checks s) (message s) s.args.out.now (Wrote (number s)) (puts s) (phase_stops s.args.header.phase c.if-phase-ne-WAITING.true) c.without_output-then-phase-ne-WAITING.ensures
-
-pub returns-in-Refuse : goal.returns-in-Refuse
-returns-in-Refuse c =
-    let s = (goal.at.returns-in-Refuse c).Start in
-    found_ill (state s) c.check_state.ensures (call s) _ c.in-Refuse.is c.without_output.ensures
-
-pub returns-else-phase-ne-WAITING : goal.returns-else-phase-ne-WAITING
-returns-else-phase-ne-WAITING c =
-    let s = (goal.at.returns-else-phase-ne-WAITING c).Start in
-    put_done (state s) (well ((goal.at.returns-else-phase-ne-WAITING c).In-Accept)) (call s) (checks s) (message s) s.args.out.now (Wrote (number s)) (puts s) (phase_passes s.args.header.phase c.if-phase-ne-WAITING.false) (rw c.subtree_in-own.ensures at c.write_icanhaz-count.ensures) c.written.ensures
+pub returns-in-Ok : goal.returns-in-Ok
+returns-in-Ok c =
+    let s = (goal.at.returns-in-Ok c).Start in
+    put_done (state s) (call s) (checks s) (message s) s.args.out.now (Wrote (number s)) (puts s) (accepted _ (sym c.in-Ok.is ∙ c.check_icanhaz.ensures)) (rw c.subtree_in-own.ensures at c.write_icanhaz-count.ensures) c.written.ensures

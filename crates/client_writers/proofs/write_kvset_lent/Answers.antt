@@ -1,5 +1,5 @@
--- `client_writers::write_kvset_lent` meets its contract: the state, the frames, and then the message, if there is room
--- for it. Assumes nothing.
+-- `client_writers::write_kvset_lent` meets its contract: what is refused, and then the message, if there is room for it.
+-- Assumes nothing.
 use mathlib.Core.List.{List}
 use mathlib.Core.Path.{sym, ◌∙◌}
 use lib.ListN.{length}
@@ -8,9 +8,8 @@ use Rattle.answers.specs.declared.answer.Kind.TheVariants.{Wrote}
 use Rattle.answers.specs.declared.refusal.Refusal.{Refusal}
 use Rattle.base.specs.Bytes.{Bytes}
 use Rattle.base.specs.Checks.{Check}
-use Rattle.client_calls.proofs.QueryLaws.{Puts, found_ill, found_well, put_refused, put_done}
+use Rattle.client_calls.proofs.QueryLaws.{Puts, put_refused, put_done}
 use Rattle.client_calls.specs.Calls.{Call, write_kvset}
-use Rattle.client_state.specs.IllFormed.{WellFormed}
 use Rattle.client_state.specs.Views.{lent}
 use Rattle.client_state.specs.declared.Client.{Client}
 use Rattle.client_writers.proofs.WriterLaws.{kvset_puts}
@@ -18,7 +17,7 @@ use Rattle.messages.specs.Fields.{bytes_of, kvset}
 use Rattle.numbers.specs.declared.sequence.Sequence.{Sequence}
 use Rattle.ports.specs.Ports.{update_checks}
 use Rattle.client_writers.proofs.write_kvset_lent.Goals as goal
-use Rattle.client_writers.proofs.write_kvset_lent.Goals.{In-Accept, Start}
+use Rattle.client_writers.proofs.write_kvset_lent.Goals.{Start}
 
 abbrev state : (c : Start) → Client
 state s = lent s.args.bytes.now s.args.lengths.now s.args.subtree.now s.args.header
@@ -38,20 +37,12 @@ message s = bytes_of (kvset s.args.key.now s.args.uuid.now s.args.properties.now
 puts : (s : Start) → Puts (state s) (call s) (checks s) (message s) (length s.args.out.now) (Wrote (number s))
 puts s = kvset_puts (state s) (length s.args.out.now) s.args.key.now s.args.uuid.now s.args.properties.now s.args.value.now
 
-well : (c : In-Accept) → WellFormed (state ((goal.at.In-Accept c).Start))
-well c = found_well (state ((goal.at.In-Accept c).Start)) c.check_state.ensures c.in-Accept.is
+pub returns-in-Err : goal.returns-in-Err
+returns-in-Err c =
+    let s = (goal.at.returns-in-Err c).Start in
+    put_refused (state s) (call s) (checks s) (message s) s.args.out.now (Wrote (number s)) (puts s) (refused _ _ (sym c.in-Err.is ∙ c.check_kvset-checked.ensures)) c.without_output.ensures
 
-pub returns-in-Refuse : goal.returns-in-Refuse
-returns-in-Refuse c =
-    let s = (goal.at.returns-in-Refuse c).Start in
-    found_ill (state s) c.check_state.ensures (call s) _ c.in-Refuse.is c.without_output.ensures
-
-pub returns-in-Refuse-check_update : goal.returns-in-Refuse-check_update
-returns-in-Refuse-check_update c =
-    let s = (goal.at.returns-in-Refuse-check_update c).Start in
-    put_refused (state s) (well ((goal.at.returns-in-Refuse-check_update c).In-Accept)) (call s) (checks s) (message s) s.args.out.now (Wrote (number s)) (puts s) (refused _ _ (sym c.in-Refuse-check_update.is ∙ c.check_update.ensures)) c.without_output-in-Refuse-check_update.ensures
-
-pub returns-in-Accept-check_update : goal.returns-in-Accept-check_update
-returns-in-Accept-check_update c =
-    let s = (goal.at.returns-in-Accept-check_update c).Start in
-    put_done (state s) (well ((goal.at.returns-in-Accept-check_update c).In-Accept)) (call s) (checks s) (message s) s.args.out.now (Wrote (number s)) (puts s) (accepted _ (sym c.in-Accept-check_update.is ∙ c.check_update.ensures)) c.write_kvset-count.ensures c.written.ensures
+pub returns-in-Ok : goal.returns-in-Ok
+returns-in-Ok c =
+    let s = (goal.at.returns-in-Ok c).Start in
+    put_done (state s) (call s) (checks s) (message s) s.args.out.now (Wrote (number s)) (puts s) (accepted _ (sym c.in-Ok.is ∙ c.check_kvset-checked.ensures)) c.write_kvset-count.ensures c.written.ensures

@@ -1,7 +1,7 @@
 -- `keys::is_key` meets its contract: the flag tells of the bytes passed, and of all at the end. Assumes nothing.
 use Prim.Native.Nat.{◌-◌}
 use native.Mathlib.Omega.{arith}
-use mathlib.Core.Path.{refl, sym, ◌∙◌}
+use mathlib.Core.Path.{sym, ◌∙◌}
 use lib.ListN.{get_or}
 use Rattle.keys.proofs.KeyLaws.{clean_turn, clean_done, key_none, key-long, key_other, key_open, key-passed}
 use Rattle.keys.proofs.is_key.Goals as goal
@@ -18,17 +18,14 @@ returns-then-s-ne47 c = sym (key_other _ c.if-s-lt1.false c.if-s-ne47.true)
 pub returns-then-s-eq47 : goal.returns-then-s-eq47
 returns-then-s-eq47 c = sym (key_open _ c.if-s-lt1.false c.if-s-ne47.false c.if-s-eq47.true)
 
-pub loop-i-init : goal.loop-i-init
-loop-i-init c = (omega arith, (omega arith, refl))
-
 pub loop-i-preserved : goal.loop-i-preserved
 loop-i-preserved c =
     let l = c.loop-i in
     let s = c.args.s.now in
-    (omega arith, (omega arith, clean_turn s l.i (get_or s (l.i - 1) 0) _ l.good l.invariant.1.1 (omega arith)))
+    clean_turn s l.i (get_or s (l.i - 1) 0) _ l.good l.invariant (omega arith)
 
 pub returns : goal.returns
 returns c =
     let l = c.loop-i in
     let s = c.args.s.now in
-    sym (key-passed s c.if-s-lt1.false c.if-s-gt-KEY_ROOM.false c.if-s-ne47.false c.if-s-eq47.false ∙ clean_done s l.i (get_or s (l.i - 1) 0) _ l.good l.invariant.1.1 (omega arith))
+    sym (key-passed s c.if-s-lt1.false c.if-s-gt-KEY_ROOM.false c.if-s-ne47.false c.if-s-eq47.false ∙ clean_done s l.i (get_or s (l.i - 1) 0) _ l.good l.invariant (omega arith))

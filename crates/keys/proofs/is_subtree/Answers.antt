@@ -1,9 +1,5 @@
 -- `keys::is_subtree` meets its contract: the last byte is a slash, and a key stands before it. Assumes nothing.
-use Prim.Native.Nat.{◌-◌}
-use native.Mathlib.Omega.{arith}
 use mathlib.Core.Path.{sym, ◌∙◌}
-use lib.ListN.{length}
-use lib.Seq.{length-take-le}
 use Rattle.keys.proofs.KeyLaws.{subtree-empty, subtree-long, subtree_open, subtree_closed}
 use Rattle.keys.proofs.is_subtree.Goals as goal
 
@@ -15,9 +11,6 @@ returns-then-n-gt-KEY_ROOM c = sym (subtree-long _ c.if-n-eq0.false c.if-n-gt-KE
 
 pub returns-then-s-n-ne47 : goal.returns-then-s-n-ne47
 returns-then-s-n-ne47 c = sym (subtree_open _ c.if-n-eq0.false c.if-n-gt-KEY_ROOM.false c.if-s-n-ne47.true)
-
-pub slice_bounds-is_key-length : goal.slice_bounds-is_key-length
-slice_bounds-is_key-length c = sym (length-take-le (length c.args.s.now - 1) c.args.s.now (omega arith))
 
 pub returns : goal.returns
 returns c = c.is_key.ensures ∙ sym (subtree_closed _ c.if-n-eq0.false c.if-n-gt-KEY_ROOM.false c.if-s-n-ne47.false)

@@ -13,34 +13,20 @@ use Rattle.row_checks.proofs.are_fitting.Goals as goal
 
 pub loop-i-init : goal.loop-i-init
 unfolding every
-loop-i-init c = (omega arith, refl)
-
-pub key_length_at-key-requires : goal.key_length_at-key-requires
-key_length_at-key-requires c = omega arith
-
-pub value_length_at-value-requires : goal.value_length_at-value-requires
-value_length_at-value-requires c = omega arith
-
-pub overflow_add-i : goal.overflow_add-i
-overflow_add-i c = omega arith
-
-pub loop-i-smaller : goal.loop-i-smaller
-loop-i-smaller c = omega arith
+loop-i-init c = refl
 
 pub loop-i-preserved : goal.loop-i-preserved
 loop-i-preserved c =
     let l = c.loop-i in
     let a = c.args in
     let cs = cells length_count a.count a.lengths.now in
-    let n = length-cells length_count a.count a.lengths.now in (
-      omega arith,
-      rw (c.key_length_at-key.ensures, c.value_length_at-value.ensures)
-          (fitting-more cs l.i l.good (cell_at length_count l.i a.lengths.now) (cell-at length_count a.count l.i a.lengths.now [] (omega arith)) (omega arith) l.invariant.1),
-    )
+    let n = length-cells length_count a.count a.lengths.now in
+    rw (c.key_length_at-key.ensures, c.value_length_at-value.ensures)
+    (fitting-more cs l.i l.good (cell_at length_count l.i a.lengths.now) (cell-at length_count a.count l.i a.lengths.now [] (omega arith)) (omega arith) l.invariant)
 
 pub returns : goal.returns
 returns c =
     let l = c.loop-i in
     let a = c.args in
     let n = length-cells length_count a.count a.lengths.now in
-    l.invariant.1 ∙ ap (every fitting) (take_all l.i (cells length_count a.count a.lengths.now) (omega arith))
+    l.invariant ∙ ap (every fitting) (take_all l.i (cells length_count a.count a.lengths.now) (omega arith))

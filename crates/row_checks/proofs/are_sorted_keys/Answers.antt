@@ -1,18 +1,16 @@
 -- `row_checks::are_sorted_keys` meets its contract: the keys passed are keys and rise, so all do if the others do. Assumes nothing.
 use mathlib.Core.Path.{ap}
-use mathlib.Core.Bool.{not}
 use native.Mathlib.Omega.{arith}
 use mathlib.Core.List.{List, []}
-use mathlib.Core.Path.{◌≡◌, refl, sym, ◌∙◌}
+use mathlib.Core.Path.{◌≡◌, sym, ◌∙◌}
 use lib.ListN.{length, get_or}
-use borrow.Author.Tests.{not-true, not-false}
+use Rattle.std.specs.Ordering.{is_ge}
 use Rattle.base.specs.Bytes.{Bytes}
-use Rattle.keys.specs.Keys.{is_key}
 use Rattle.row_cells.proofs.TextLaws.{key_is, keys_long, key-most_at}
 use Rattle.row_cells.specs.Texts.{keys_of}
 use Rattle.row_checks.proofs.PassLaws.{sorted_start, no_key, not_above, sorted_turn, sorted_done}
 use Rattle.row_checks.proofs.are_sorted_keys.Goals as goal
-use Rattle.row_checks.proofs.are_sorted_keys.Goals.{After-key_at-key, Start}
+use Rattle.row_checks.proofs.are_sorted_keys.Goals.{After-key_at-key, Start, then-not-is_key-via-then-not-is_key, then-not-is_key-via-else-not-is_key+then-is_ge}
 
 abbrev keys : (c : Start) → List Bytes
 keys s = keys_of s.args.count s.args.bytes.now s.args.lengths.now
@@ -27,7 +25,7 @@ own c =
     key_is a.count a.bytes.now a.lengths.now c.loop-i.i (omega arith) ∙ sym c.key_at-key.ensures
 
 pub loop-i-init : goal.loop-i-init
-loop-i-init c = (omega arith, rw c.front-before.ensures (sorted_start (keys ((goal.at.loop-i-init c).Start))))
+loop-i-init c = sorted_start (keys ((goal.at.loop-i-init c).Start))
 
 pub key_at-key-requires : goal.key_at-key-requires
 key_at-key-requires c =
@@ -37,35 +35,22 @@ key_at-key-requires c =
 pub returns-then-not-is_key : goal.returns-then-not-is_key
 returns-then-not-is_key c =
     let l = c.loop-i in
+    let ks = keys ((goal.at.returns-then-not-is_key c).Start) in
     let n = many ((goal.at.returns-then-not-is_key c).Start) in
-    no_key (keys ((goal.at.returns-then-not-is_key c).Start)) l.before.now l.i _ l.invariant.1 (own ((goal.at.returns-then-not-is_key c).After-key_at-key)) (omega arith) (sym c.is_key.ensures ∙ not-true _ (ap not c.if-not-is_key.true))
-
-pub overflow_add-i : goal.overflow_add-i
-overflow_add-i c = omega arith
-
-pub loop-i-smaller : goal.loop-i-smaller
-loop-i-smaller c = omega arith
+    let key_of_i = own ((goal.at.returns-then-not-is_key c).After-key_at-key) in
+    elim c.then-not-is_key.branch [
+      | then-not-is_key-via-then-not-is_key w ↦ no_key ks l.before.now l.i _ l.invariant key_of_i (omega arith) (sym c.is_key.ensures ∙ w.if-not-is_key.true)
+      | then-not-is_key-via-else-not-is_key+then-is_ge w ↦ not_above ks l.before.now l.i _ l.invariant key_of_i (omega arith) (ap is_ge (sym w.compare.ensures) ∙ sym w.is_ge.ensures ∙ w.if-is_ge.true)
+    ]
 
 pub loop-i-preserved : goal.loop-i-preserved
 loop-i-preserved c =
     let l = c.loop-i in
     let n = many ((goal.at.loop-i-preserved c).Start) in
-    (omega arith, sorted_turn (keys ((goal.at.loop-i-preserved c).Start)) l.before.now l.i _ l.invariant.1 (own ((goal.at.loop-i-preserved c).After-key_at-key)) (omega arith) (sym c.is_key.ensures ∙ not-false _ (ap not c.if-not-is_key.false)) (sym c.compare.ensures ∙ c.in-Less.is))
-
-pub returns-in-Equal : goal.returns-in-Equal
-returns-in-Equal c =
-    let l = c.loop-i in
-    let n = many ((goal.at.returns-in-Equal c).Start) in
-    not_above (keys ((goal.at.returns-in-Equal c).Start)) l.before.now l.i _ l.invariant.1 (own ((goal.at.returns-in-Equal c).After-key_at-key)) (omega arith) _ (sym c.compare.ensures ∙ c.in-Equal.is) refl
-
-pub returns-in-Greater : goal.returns-in-Greater
-returns-in-Greater c =
-    let l = c.loop-i in
-    let n = many ((goal.at.returns-in-Greater c).Start) in
-    not_above (keys ((goal.at.returns-in-Greater c).Start)) l.before.now l.i _ l.invariant.1 (own ((goal.at.returns-in-Greater c).After-key_at-key)) (omega arith) _ (sym c.compare.ensures ∙ c.in-Greater.is) refl
+    sorted_turn (keys ((goal.at.loop-i-preserved c).Start)) l.before.now l.i _ l.invariant (own ((goal.at.loop-i-preserved c).After-key_at-key)) (omega arith) (sym c.is_key.ensures ∙ c.if-not-is_key.false) (ap is_ge (sym c.compare.ensures) ∙ sym c.is_ge.ensures ∙ c.if-is_ge.false)
 
 pub returns : goal.returns
 returns c =
     let l = c.loop-i in
     let n = many ((goal.at.returns c).Start) in
-    sorted_done (keys ((goal.at.returns c).Start)) l.before.now l.i _ l.invariant.1 (omega arith)
+    sorted_done (keys ((goal.at.returns c).Start)) l.before.now l.i _ l.invariant (omega arith)

@@ -1,5 +1,4 @@
 -- `row_checks::are_sorted_keys` meets its contract: the keys passed are keys and rise, so all do if the others do. Assumes nothing.
-use Prim.Native.Nat.{◌≤◌, ◌-◌}
 use mathlib.Core.Bool.{◌&&◌}
 use Rattle.base.specs.Bytes.{every}
 use Rattle.keys.specs.Keys.{is_key}
@@ -10,7 +9,4 @@ use Rattle.row_checks.proofs.are_sorted_keys.Given as goal
 
 abbrev pub invariant-loop-i : goal.invariant-loop-i
 invariant-loop-i l =
-    (l.i ≤ l.count) × Passed (every is_key (keys_of l.count l.bytes l.lengths) && rising (keys_of l.count l.bytes l.lengths)) (keys_of l.count l.bytes l.lengths) l.before l.i
-
-abbrev pub decreases-loop-i : goal.decreases-loop-i
-decreases-loop-i l = l.count - l.i
+    Passed (every is_key (keys_of l.count l.bytes l.lengths) && rising (keys_of l.count l.bytes l.lengths)) (keys_of l.count l.bytes l.lengths) l.before l.i

@@ -1,68 +1,44 @@
--- `row_checks::are_under` meets its contract: the keys passed are under the subtree, so all are if the others are. Assumes nothing.
-use mathlib.Core.Bool.{not}
+-- `row_checks::are_under` meets its contract: what each place answers is that of the key there. Assumes nothing.
+use Prim.Native.Nat.{ℕ, ◌<◌}
+use native.Mathlib.Nat.{zero-add}
 use native.Mathlib.Omega.{arith}
+use mathlib.Core.Bool.{Bool, true, false}
 use mathlib.Core.List.{List, []}
 use mathlib.Core.Path.{◌≡◌, refl, sym, ap, ◌∙◌}
+use borrow.Author.Rules.{rules}
 use lib.ListN.{length, get_or}
-use borrow.Author.Tests.{not-true, not-false}
-use Rattle.base.specs.Bytes.{Bytes}
+use Rattle.std.proofs.lemmas.Iterator.{serves_from_Range, cases_from_all, YieldsList-from_range}
+use Rattle.std.proofs.lemmas.List.FromFn.{length-range_with_len, get_or-range_with_len}
+use Rattle.std.specs.Bool.{MatchBool}
+use Rattle.std.specs.List.{AllWithin, HoldsAt, range_with_len}
+use Rattle.base.specs.Bytes.{Bytes, every}
 use Rattle.keys.specs.Keys.{under}
 use Rattle.row_cells.proofs.TextLaws.{key_is, keys_long, key-most_at}
-use Rattle.row_cells.specs.Texts.{keys_of}
-use Rattle.row_checks.proofs.PassLaws.{every_turn, every-stop, every_done}
+use Rattle.row_cells.specs.Texts.{keys_of, row_key}
+use Rattle.row_checks.proofs.PassLaws.{every_place, every-but}
 use Rattle.row_checks.proofs.are_under.Goals as goal
-use Rattle.row_checks.proofs.are_under.Goals.{After-is_under, Start}
 
-abbrev keys : (c : Start) → List Bytes
-keys s = keys_of s.args.count s.args.bytes.now s.args.lengths.now
+-- what `all` says of the places of a list
+module _ (test : Bytes → Bool) (l : List Bytes) (n : ℕ) (e : length l ≡ n) where
+  abbrev Is : Bool → ℕ → Type 0
+  Is b i = (i < n) → test (get_or l i []) ≡ b
 
-many : (s : Start) → length (keys s) ≡ s.args.count
-many s = keys_long s.args.count s.args.bytes.now s.args.lengths.now
+  all_is : (r : Bool) → MatchBool r (AllWithin (Is true) (range_with_len 0 n) 0 (length (range_with_len 0 n))) ((k : ℕ) × (k < length (range_with_len 0 n)) × HoldsAt (Is false) (range_with_len 0 n) k) → r ≡ every test l
+  all_is true m = sym (every_place test l [] (λ i k. let h : i < n = omega arith in let j : i < length (range_with_len 0 n) = rw length-range_with_len h in rw (get_or-range_with_len 0 n i 0 h, zero-add) at (m i 0 (omega arith) j) h))
+  all_is false (k, h, m) = let h' : k < n = rw length-range_with_len at h in sym (every-but test l [] k (omega arith) (rw (get_or-range_with_len 0 n k 0 h', zero-add) at (m 0) h'))
 
--- what is tested is the key of row i
-told : (c : After-is_under) → under c.args.subtree.now (get_or (keys ((goal.at.After-is_under c).Start)) c.loop-i.i []) ≡ c.is_under.result
-told c =
-    let a = c.args in
-    ap (under a.subtree.now) (key_is a.count a.bytes.now a.lengths.now c.loop-i.i (omega arith) ∙ sym c.key_at.ensures) ∙ sym c.is_under.ensures
-
-pub loop-i-init : goal.loop-i-init
-loop-i-init c = (omega arith, refl)
-
-pub key_at-requires : goal.key_at-requires
-key_at-requires c =
-    let s = (goal.at.key_at-requires c).Start in
-    let few = s.requires.few in
-    (omega arith, key-most_at s.args.count s.args.lengths.now s.requires.fit c.loop-i.i (omega arith))
-
-pub is_under-requires : goal.is_under-requires
-is_under-requires c = tt
-
-pub returns-then-not-is_under : goal.returns-then-not-is_under
-returns-then-not-is_under c =
-    let l = c.loop-i in
-    let s = (goal.at.returns-then-not-is_under c).Start in
-    let n = many s in
-    every-stop (under s.args.subtree.now) (keys s) l.i [] _ l.invariant.1 (omega arith) (told ((goal.at.returns-then-not-is_under c).After-is_under) ∙ not-true _ (ap not c.if-not-is_under.true))
-
-pub overflow_add-i : goal.overflow_add-i
-overflow_add-i c =
-    let s = (goal.at.overflow_add-i c).Start in
-    let few = s.requires.few in
-    omega arith
-
-pub loop-i-smaller : goal.loop-i-smaller
-loop-i-smaller c = omega arith
-
-pub loop-i-preserved : goal.loop-i-preserved
-loop-i-preserved c =
-    let l = c.loop-i in
-    let s = (goal.at.loop-i-preserved c).Start in
-    let n = many s in
-    (omega arith, every_turn (under s.args.subtree.now) (keys s) l.i [] _ l.invariant.1 (omega arith) (told ((goal.at.loop-i-preserved c).After-is_under) ∙ not-false _ (ap not c.if-not-is_under.false)))
+pub all-requires-clause-callable : goal.all-requires-clause-callable
+all-requires-clause-callable c =
+    let few = c.requires.few in
+    serves_from_Range (λ x q h. search rules) (λ x lo hi κ p n e u f t l. (omega arith, key-most_at c.args.count c.args.lengths.now c.requires.fit x hi))
 
 pub returns : goal.returns
 returns c =
-    let l = c.loop-i in
-    let s = (goal.at.returns c).Start in
-    let n = many s in
-    every_done (under s.args.subtree.now) (keys s) l.i [] _ l.invariant.1 (omega arith)
+    let a = c.args in
+    let ks = keys_of a.count a.bytes.now a.lengths.now in
+    let many = keys_long a.count a.bytes.now a.lengths.now in
+    let is = Is (under a.subtree.now) ks a.count many in
+    let told = λ (b : Bool) (x : ℕ) (e : under a.subtree.now (row_key x a.bytes.now a.lengths.now) ≡ b) (h : x < a.count). ap (under a.subtree.now) (key_is a.count a.bytes.now a.lengths.now x h) ∙ e in
+    all_is (under a.subtree.now) ks a.count many c.all.result
+    (cases_from_all _ _ _ (is true) (is false) c.all.ensures.ran (YieldsList-from_range 0 a.count a.count refl (omega arith))
+    (λ x q k. (search rules, told true x (search rules))) (λ x q k. told false x (search rules)))

@@ -40,29 +40,12 @@ loop-lo-init c =
     let n = many ((goal.at.loop-lo-init c).Start) in
     record { from = omega arith; to = omega arith; keeps = ap (place_of 0 c.args.key.now) (sym (take_all c.args.count (keys ((goal.at.loop-lo-init c).Start)) (omega arith))) }
 
-pub overflow_sub-mid : goal.overflow_sub-mid
-overflow_sub-mid c = omega arith
-
-pub overflow_add-mid : goal.overflow_add-mid
-overflow_add-mid c = omega arith
-
 pub key_at-requires : goal.key_at-requires
 key_at-requires c =
     let l = c.loop-lo in
     let s = (goal.at.key_at-requires c).Start in
     let few = s.requires.few in
     (omega arith, key-most_at s.args.count s.args.lengths.now s.requires.fit (middle l.lo l.hi) (omega arith))
-
-pub compare-requires : goal.compare-requires
-compare-requires c = tt
-
-pub overflow_add-lo : goal.overflow_add-lo
-overflow_add-lo c =
-    let few = c.requires.few in
-    omega arith
-
-pub loop-lo-smaller-in-Less : goal.loop-lo-smaller-in-Less
-loop-lo-smaller-in-Less c = omega arith
 
 pub loop-lo-preserved-in-Less : goal.loop-lo-preserved-in-Less
 loop-lo-preserved-in-Less c =
@@ -77,9 +60,6 @@ returns-in-Equal c =
     let s = (goal.at.returns-in-Equal c).Start in
     let n = many s in
     sym (l.invariant.keeps ∙ found s.args.key.now (keys s) l.lo l.hi (middle l.lo l.hi) (omega arith) (omega arith) (omega arith) s.requires.rise (told ((goal.at.returns-in-Equal c).After-compare) ∙ c.in-Equal.is))
-
-pub loop-lo-smaller : goal.loop-lo-smaller
-loop-lo-smaller c = omega arith
 
 pub loop-lo-preserved : goal.loop-lo-preserved
 loop-lo-preserved c =

@@ -9,7 +9,7 @@ use Rattle.server_kvset.proofs.KvsetLaws.{kvset_stopped, stored_fits, kvset_stor
 use Rattle.server_state.specs.Views.{lent}
 use Rattle.server_state.specs.declared.Server.{Server}
 use Rattle.server_kvset.proofs.kvset_lent.Goals as goal
-use Rattle.server_kvset.proofs.kvset_lent.Goals.{After-plan_kvset, After-slice_known-1, Start}
+use Rattle.server_kvset.proofs.kvset_lent.Goals.{Start}
 
 abbrev state : (c : Start) → Server
 state s = lent s.args.bytes.now s.args.lengths.now s.args.stamps.now s.args.header
@@ -20,27 +20,23 @@ msg s = s.args.msg.now
 pub change_row-requires : goal.change_row-requires
 change_row-requires c =
     let s = (goal.at.change_row-requires c).Start in
-    let split = (goal.at.change_row-requires c).After-slice_known-1 in
-    stored_fits (state s) (msg s) s.args.tick.0 s.args.out.now c.split_message-split.result c.split_message-split.ensures c.plan_kvset.ensures c.in-Store.is
+    stored_fits (state s) (msg s) s.args.tick.0 s.args.out.now c.split_message-split.result c.split_message-split.ensures c.plan_kvset.ensures c.in-Ok.is
 
 pub change_stamps-requires : goal.change_stamps-requires
 change_stamps-requires c =
     let s = (goal.at.change_stamps-requires c).Start in
-    let split = (goal.at.change_stamps-requires c).After-slice_known-1 in
-    stored_fits (state s) (msg s) s.args.tick.0 s.args.out.now c.split_message-split.result c.split_message-split.ensures c.plan_kvset.ensures c.in-Store.is
+    stored_fits (state s) (msg s) s.args.tick.0 s.args.out.now c.split_message-split.result c.split_message-split.ensures c.plan_kvset.ensures c.in-Ok.is
 
-pub returns-in-Refuse : goal.returns-in-Refuse
-returns-in-Refuse c =
-    let s = (goal.at.returns-in-Refuse c).Start in
-    let split = (goal.at.returns-in-Refuse c).Start in
+pub returns-in-Err : goal.returns-in-Err
+returns-in-Err c =
+    let s = (goal.at.returns-in-Err c).Start in
     refused_call (state s) (kvset (msg s) s.args.tick.0 (length s.args.out.now)) s.args.out.now _ _ _
-    (kvset_stopped (state s) (msg s) s.args.tick.0 s.args.out.now c.split_message-split.result c.split_message-split.ensures c.plan_kvset.ensures c.in-Refuse.is)
+    (kvset_stopped (state s) (msg s) s.args.tick.0 s.args.out.now c.split_message-split.result c.split_message-split.ensures c.plan_kvset.ensures c.in-Err.is)
     (ap (lent s.args.bytes.now s.args.lengths.now s.args.stamps.now) c.refused.ensures.0) c.refused.ensures.1
 
-pub returns-in-Store : goal.returns-in-Store
-returns-in-Store c =
-    let s = (goal.at.returns-in-Store c).Start in
-    let split = (goal.at.returns-in-Store c).After-plan_kvset in
-    kvset_stored (state s) (msg s) s.args.tick.0 s.args.out.now c.split_message-split.result c.split_message-split.ensures c.plan_kvset.ensures c.in-Store.is
+pub returns-in-Ok : goal.returns-in-Ok
+returns-in-Ok c =
+    let s = (goal.at.returns-in-Ok c).Start in
+    kvset_stored (state s) (msg s) s.args.tick.0 s.args.out.now c.split_message-split.result c.split_message-split.ensures c.plan_kvset.ensures c.in-Ok.is
     c.body-key.ensures c.body-value.ensures _ c.fresh_row-fresh.ensures c.change_row.ensures c.change_stamps.ensures
-    c.publish-written.ensures c.wrote.ensures
+    c.publish-written.ensures c.accepted.ensures

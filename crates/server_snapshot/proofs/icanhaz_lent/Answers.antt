@@ -17,11 +17,11 @@ sized : (c : After-check_request) → length c.args.bytes.now ≡ byte_count
 sized c = search rules
 
 pub write_snapshot-written-requires : goal.write_snapshot-written-requires
-write_snapshot-written-requires c = snapshot-fits (state ((goal.at.write_snapshot-written-requires c).Start)) (sized ((goal.at.write_snapshot-written-requires c).After-check_request)) c.args.msg.now c.split_message-split.result c.split_message-split.ensures c.args.out.now c.check_request.ensures c.in-Accept.is c.body-identity.ensures c.body-subtree.ensures
+write_snapshot-written-requires c = snapshot-fits (state ((goal.at.write_snapshot-written-requires c).Start)) (sized ((goal.at.write_snapshot-written-requires c).After-check_request)) c.args.msg.now c.split_message-split.result c.split_message-split.ensures c.args.out.now c.check_request.ensures c.in-Ok.is c.body-identity.ensures c.body-subtree.ensures
 
-pub returns-in-Refuse : goal.returns-in-Refuse
-returns-in-Refuse c = snapshot-refused (state ((goal.at.returns-in-Refuse c).Start)) (sized ((goal.at.returns-in-Refuse c).After-check_request)) c.args.msg.now c.split_message-split.result c.split_message-split.ensures c.args.out.now c.check_request.ensures c.in-Refuse.is c.without_output.ensures
+pub returns-in-Err : goal.returns-in-Err
+returns-in-Err c = snapshot-refused (state ((goal.at.returns-in-Err c).Start)) (sized ((goal.at.returns-in-Err c).After-check_request)) c.args.msg.now c.split_message-split.result c.split_message-split.ensures c.args.out.now c.check_request.ensures c.in-Err.is c.without_output.ensures
 
-pub returns-in-Accept : goal.returns-in-Accept
-returns-in-Accept c =
-    snapshot-answered (state ((goal.at.returns-in-Accept c).Start)) (sized ((goal.at.returns-in-Accept c).After-check_request)) c.args.msg.now c.split_message-split.result c.split_message-split.ensures c.args.out.now c.check_request.ensures c.in-Accept.is c.body-identity.ensures c.body-subtree.ensures c.write_snapshot-written.ensures c.with_output.ensures
+pub returns-in-Ok : goal.returns-in-Ok
+returns-in-Ok c =
+    snapshot-answered (state ((goal.at.returns-in-Ok c).Start)) (sized ((goal.at.returns-in-Ok c).After-check_request)) c.args.msg.now c.split_message-split.result c.split_message-split.ensures c.args.out.now c.check_request.ensures c.in-Ok.is c.body-identity.ensures c.body-subtree.ensures c.write_snapshot-written.ensures c.with_output.ensures

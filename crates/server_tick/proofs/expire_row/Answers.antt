@@ -7,16 +7,9 @@ use Rattle.server_tick.proofs.expire_row.Goals as goal
 
 pub key_at-key-requires : goal.key_at-key-requires
 key_at-key-requires c =
-    let s = c in
-    let few = s.requires.0.few in
-    let low = s.requires.1 in
-    (omega arith, key-most_at s.args.count s.args.lengths.now s.requires.0.fit s.args.i low)
-
-pub change_row-requires : goal.change_row-requires
-change_row-requires c = (c.requires.1, c.requires.0.few)
-
-pub change_stamps-requires : goal.change_stamps-requires
-change_stamps-requires c = (c.requires.1, c.requires.0.few)
+    let few = c.requires.0.few in
+    let low = c.requires.1 in
+    (omega arith, key-most_at c.args.count c.args.lengths.now c.requires.0.fit c.args.i low)
 
 pub returns : goal.returns
 returns c = record {

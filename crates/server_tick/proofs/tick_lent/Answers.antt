@@ -15,26 +15,26 @@ state s = lent s.args.bytes.now s.args.lengths.now s.args.stamps.now s.args.head
 pub expire_row-written-requires : goal.expire_row-written-requires
 expire_row-written-requires c =
     let s = (goal.at.expire_row-written-requires c).Start in
-    expire_ready (state s) s.args.tick.0 s.args.out.now c.plan_tick.ensures c.in-Expire.is
+    expire_ready (state s) s.args.tick.0 s.args.out.now c.plan_tick.ensures (rw c.in-Ok-Expire.field-0-is at c.in-Ok-Expire.is)
 
-pub returns-in-Refuse : goal.returns-in-Refuse
-returns-in-Refuse c =
-    let s = (goal.at.returns-in-Refuse c).Start in
+pub returns-in-Err : goal.returns-in-Err
+returns-in-Err c =
+    let s = (goal.at.returns-in-Err c).Start in
     refused_call (state s) (tick s.args.tick.0 (length s.args.out.now)) s.args.out.now _ _ _
-    (tick_stopped (state s) s.args.tick.0 s.args.out.now c.plan_tick.ensures c.in-Refuse.is)
+    (tick_stopped (state s) s.args.tick.0 s.args.out.now c.plan_tick.ensures c.in-Err.is)
     (ap (lent s.args.bytes.now s.args.lengths.now s.args.stamps.now) c.refused.ensures.0) c.refused.ensures.1
 
-pub returns-in-Expire : goal.returns-in-Expire
-returns-in-Expire c =
-    let s = (goal.at.returns-in-Expire c).Start in
-    tick_expired (state s) s.args.tick.0 s.args.out.now c.plan_tick.ensures c.in-Expire.is c.expire_row-written.ensures c.wrote.ensures
+pub returns-in-Ok-Expire : goal.returns-in-Ok-Expire
+returns-in-Ok-Expire c =
+    let s = (goal.at.returns-in-Ok-Expire c).Start in
+    tick_expired (state s) s.args.tick.0 s.args.out.now c.plan_tick.ensures (rw c.in-Ok-Expire.field-0-is at c.in-Ok-Expire.is) c.expire_row-written.ensures c.accepted.ensures
 
-pub returns-in-Beat : goal.returns-in-Beat
-returns-in-Beat c =
-    let s = (goal.at.returns-in-Beat c).Start in
-    tick-beat (state s) s.args.tick.0 s.args.out.now c.plan_tick.ensures c.in-Beat.is c.write_hugz.ensures c.wrote-in-Beat.ensures
+pub returns-in-Ok-Beat : goal.returns-in-Ok-Beat
+returns-in-Ok-Beat c =
+    let s = (goal.at.returns-in-Ok-Beat c).Start in
+    tick-beat (state s) s.args.tick.0 s.args.out.now c.plan_tick.ensures (rw c.in-Ok-Beat.field-0-is at c.in-Ok-Beat.is) c.write_hugz-written.ensures c.accepted-in-Ok-Beat.ensures
 
-pub returns-in-Quiet : goal.returns-in-Quiet
-returns-in-Quiet c =
-    let s = (goal.at.returns-in-Quiet c).Start in
-    tick_quiet (state s) s.args.tick.0 s.args.out.now c.plan_tick.ensures c.in-Quiet.is c.did_nothing.ensures
+pub returns-in-Ok-Quiet : goal.returns-in-Ok-Quiet
+returns-in-Ok-Quiet c =
+    let s = (goal.at.returns-in-Ok-Quiet c).Start in
+    tick_quiet (state s) s.args.tick.0 s.args.out.now c.plan_tick.ensures (rw c.in-Ok-Quiet.field-0-is at c.in-Ok-Quiet.is) c.accepted-in-Ok-Quiet.ensures

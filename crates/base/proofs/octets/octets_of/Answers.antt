@@ -1,8 +1,7 @@
--- `base::octets::octets_of` meets its contract: each octet is what is left of the number once the octets behind it are gone. Assumes nothing.
-use mathlib.Core.Path.{refl}
-use Rattle.base.specs.Octets.{octets}
+-- `base::octets::octets_of` meets its contract by the library's octets. Assumes nothing.
+use Rattle.std.proofs.Common.{◌∙◌}
+use Rattle.base.proofs.OctetLaws.{be-octets}
 use Rattle.base.proofs.octets.octets_of.Goals as goal
 
 pub returns : goal.returns
-unfolding octets
-returns c = refl
+returns c = c.to_be_bytes.ensures ∙ be-octets _

@@ -1,28 +1,32 @@
--- `base::octets::read_eight` meets its contract: the octets that are passed are a number that has room for one more. Assumes nothing.
-use native.Mathlib.Omega.{arith}
-use mathlib.Core.Path.{ap}
-use borrow.Author.Tests.{eq-eqb, ne_eqb}
-use Rattle.base.proofs.OctetLaws.{none_passed, one-passed, all_passed, before_eight}
+-- `base::octets::read_eight` meets its contract by the library's octets. Assumes nothing.
+use Rattle.std.proofs.Common.{◌≡◌, ◌≢◌, length, sym, ap, ◌∙◌, Some, None, Result, Ok, Err}
+use Rattle.std.proofs.lemmas.Bool.{eq-eqb, ne_eqb}
+use Rattle.std.specs.Array.{IsWholeChunk}
+use Rattle.std.specs.Int.{from_be_bytes, w64}
+use Rattle.std.specs.Result.{MatchResult, result_ok}
+use Rattle.base.specs.Bytes.{Bytes}
 use Rattle.base.specs.Octets.{eight_of}
-use Rattle.base.specs.declared.octets.Eight.TheVariants.{Number}
+use Rattle.base.proofs.OctetLaws.{number-be}
 use Rattle.base.proofs.octets.read_eight.Goals as goal
 
-pub returns-then-s-ne8 : goal.returns-then-s-ne8
+-- what the library says of bytes that are to be an array of eight
+abbrev Tried : {E : Type 0} → Bytes → Result Bytes E → Type 0
+Tried s r = MatchResult r (λ y. IsWholeChunk s y 8) (λ _. length s ≢ 8)
+
+none_are : {E : Type 0} (s : Bytes) (r : Result Bytes E) → Tried s r → result_ok r ≡ None → None ≡ eight_of s
 unfolding eight_of
-returns-then-s-ne8 c = rw (ne_eqb _ 8 c.if-s-ne8.true)
+none_are s (Ok y) h e = cc
+none_are s (Err x) h e = rw (ne_eqb (length s) 8 h)
 
-pub loop-i-init : goal.loop-i-init
-loop-i-init c = (omega arith, none_passed _)
+all_are : {E : Type 0} (s y : Bytes) (r : Result Bytes E) → Tried s r → result_ok r ≡ Some y → Some (from_be_bytes w64 y) ≡ eight_of s
+unfolding eight_of
+all_are s y (Ok z) h e =
+    let f : y ≡ s = cc (h.same) in
+    rw (f, eq-eqb (length s) 8 h.long, number-be s h.long)
+all_are s y (Err x) h e = cc
 
-pub overflow_mul-n : goal.overflow_mul-n
-overflow_mul-n c = omega (arith, before_eight c.loop-i.n c.loop-i.i c.loop-i-test.true c.loop-i.invariant.1.below)
-
-pub overflow_add-n : goal.overflow_add-n
-overflow_add-n c = omega (arith, before_eight c.loop-i.n c.loop-i.i c.loop-i-test.true c.loop-i.invariant.1.below, c.wide.ensures.1)
-
-pub loop-i-preserved : goal.loop-i-preserved
-loop-i-preserved c = (omega arith, one-passed c.args.s.now c.loop-i.n c.loop-i.i _ (omega arith) c.wide.ensures.0 c.wide.ensures.1 c.loop-i.invariant.1)
+pub returns-in_err-eight : goal.returns-in_err-eight
+returns-in_err-eight c = c.from_residual.ensures ∙ none_are _ _ c.try_from.ensures.1 (sym c.ok.ensures.value ∙ c.in_err-eight.was)
 
 pub returns : goal.returns
-unfolding eight_of
-returns c = simp (eq-eqb _ 8 c.if-s-ne8.false) (ap Number (all_passed c.args.s.now c.loop-i.n c.loop-i.i (omega arith) c.loop-i.invariant.1))
+returns c = ap Some c.from_be_bytes.ensures ∙ all_are _ _ _ c.try_from.ensures.1 (sym c.ok.ensures.value ∙ c.in_ok-eight.was)

@@ -5,4 +5,4 @@ use Rattle.chp.proofs.client.chp_lent_client_snapshot.Goals as goal
 pub returns : goal.returns
 returns c =
     let put = c.put_outcome.ensures in
-    client-answered put.1 c.args.header.now _ c.header_of-before.ensures c.snapshot_lent-r.ensures put.0
+    client-answered put.1 c.args.header.now _ c.from_words-before.ensures c.snapshot_lent-r.ensures put.0

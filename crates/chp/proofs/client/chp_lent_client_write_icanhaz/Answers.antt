@@ -4,5 +4,5 @@ use Rattle.chp.proofs.client.chp_lent_client_write_icanhaz.Goals as goal
 
 pub returns : goal.returns
 returns c =
-    let e = c.header_of-before.ensures in
+    let e = c.from_words-before.ensures in
     client-asked c.put_answer.ensures c.args.header.now _ e c.write_icanhaz_lent-a.ensures _ e

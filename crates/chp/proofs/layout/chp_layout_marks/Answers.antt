@@ -1,11 +1,12 @@
 -- `chp::layout::chp_layout_marks` meets its contract: the value's marks are written over the key's from the value's place on. Assumes nothing.
+use Prim.Native.Nat.{ℕ}
 use mathlib.Core.List.{◌++◌}
 use mathlib.Core.Path.{◌≡◌, refl, ◌∙◌}
 use lib.ListN.{replicate}
 use Rattle.base.specs.Output.{put}
 use Rattle.chp.proofs.layout.chp_layout_marks.Goals as goal
 
-cell : put (replicate 352 1) 96 (replicate 256 2) ≡ replicate 96 1 ++ replicate 256 2
+cell : put {A = ℕ} (replicate 352 1) 96 (replicate 256 2) ≡ replicate 96 1 ++ replicate 256 2
 unfolding put
 cell = refl
 

@@ -4,5 +4,5 @@ use Rattle.chp.proofs.server.chp_lent_server_icanhaz.Goals as goal
 
 pub returns : goal.returns
 returns c =
-    let e = c.header_of-before.ensures in
+    let e = c.from_words-before.ensures in
     server-asked c.put_answer.ensures c.args.header.now _ e c.icanhaz_lent-a.ensures _ e

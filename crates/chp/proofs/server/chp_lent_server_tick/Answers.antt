@@ -5,4 +5,4 @@ use Rattle.chp.proofs.server.chp_lent_server_tick.Goals as goal
 pub returns : goal.returns
 returns c =
     let put = c.put_outcome.ensures in
-    server-answered put.1 c.args.header.now _ c.header_of-before.ensures c.tick_lent-r.ensures put.0
+    server-answered put.1 c.args.header.now _ c.from_words-before.ensures c.tick_lent-r.ensures put.0

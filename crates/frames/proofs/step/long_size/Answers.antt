@@ -1,20 +1,13 @@
 -- `frames::step::long_size` meets its contract: the eight octets are a number, and nothing else can be read there. Assumes nothing.
-use native.Mathlib.Omega.{arith}
-use mathlib.Core.Path.{sym, ◌∙◌}
-use lib.Seq.{length-take-le}
-use Rattle.frames.proofs.StepLaws.{long_none, size_never, long_read}
+use Rattle.std.proofs.Common.{sym, ◌∙◌}
+use Rattle.frames.proofs.StepLaws.{long_none, long_never, long_read}
 use Rattle.frames.proofs.step.long_size.Goals as goal
 
-pub returns-then-s-lt8 : goal.returns-then-s-lt8
-returns-then-s-lt8 c = sym (long_none _ _ c.if-s-lt8.true)
+pub returns-in_err-size : goal.returns-in_err-size
+returns-in_err-size c = c.from_residual.ensures ∙ long_none _ _ c.in_err-size.ensures.cases
 
-pub slice_bounds-read_eight-end : goal.slice_bounds-read_eight-end
-slice_bounds-read_eight-end c = sym (length-take-le _ c.args.s.now (omega (arith, c.if-s-lt8.false)))
-
-pub returns-in_default : goal.returns-in_default
-returns-in_default c =
-    absurd (size_never c.args.s.now c.if-s-lt8.false (sym c.in_default.is ∙ c.read_eight.ensures))
+pub returns-in_err-len : goal.returns-in_err-len
+returns-in_err-len c = c.from_residual-in_err-len.ensures ∙ long_never _ _ _ _ c.in_ok-size.ensures.cases (sym c.in_err-len.was ∙ c.read_eight.ensures)
 
 pub returns : goal.returns
-returns c =
-    c.hold.ensures ∙ sym (long_read _ _ _ c.if-s-lt8.false (sym c.in-Number.is ∙ c.read_eight.ensures))
+returns c = c.hold.ensures ∙ long_read _ _ _ _ c.in_ok-size.ensures.cases _ (sym c.in_ok-len.was ∙ c.read_eight.ensures)

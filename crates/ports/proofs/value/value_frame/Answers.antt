@@ -13,13 +13,13 @@ use Rattle.ports.proofs.value.value_frame.Goals.{After-check_framing}
 judged : (c : After-check_framing) → c.check_framing.result ≡ verdict (first_refusal (framed 5 c.args.msg.now))
 judged c = c.check_framing.ensures ∙ verdict_is _ _ c.split_message-split.ensures 5
 
-pub returns-in_default : goal.returns-in_default
+pub returns-in-Err : goal.returns-in-Err
 unfolding value_in
-returns-in_default c = rw (refused _ (first_refusal (framed 5 c.args.msg.now)) (sym c.in_default.is ∙ judged ((goal.at.returns-in_default c).After-check_framing)))
+returns-in-Err c = rw (refused _ (first_refusal (framed 5 c.args.msg.now)) (sym c.in-Err.is ∙ judged ((goal.at.returns-in-Err c).After-check_framing)))
 
-pub returns : goal.returns
+pub returns-in-Ok : goal.returns-in-Ok
 unfolding value_in
-returns c =
+returns-in-Ok c =
     c.body.ensures
     ∙ body_is _ _ c.split_message-split.ensures 4 (omega arith)
-    ∙ rw (accepted (first_refusal (framed 5 c.args.msg.now)) (sym c.in-Accept.is ∙ judged ((goal.at.returns c).After-check_framing)))
+    ∙ rw (accepted (first_refusal (framed 5 c.args.msg.now)) (sym c.in-Ok.is ∙ judged ((goal.at.returns-in-Ok c).After-check_framing)))

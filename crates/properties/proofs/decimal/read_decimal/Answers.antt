@@ -1,56 +1,35 @@
 -- `properties::decimal::read_decimal` meets its contract: the digits passed are the number so far, which is within bounds. Assumes nothing.
-use Prim.Native.Nat.{◌+◌, ◌*◌, ◌≤◌, ◌<◌}
-use native.Mathlib.Omega.{arith}
-use mathlib.Core.Path.{◌≡◌, sym}
-use lib.ListN.{get_or, drop}
-use Rattle.properties.proofs.DecimalLaws.{digits_left, no_digits, too_many, digits_begin, digit_turn, digit_low, digit_high, digits_done, too_large}
+use Rattle.std.proofs.Common.{◌+◌, ◌*◌, arith, ◌≡◌, sym, drop, ◌∙◌, ℕ, Bool, false}
+use Rattle.std.proofs.lemmas.Bool.{eqb-true, eqb-false}
+use Rattle.std.proofs.Math.Dec.{eqb}
+use Rattle.properties.proofs.DecimalLaws.{digits_left, no_digits, too_many, digits_begin, digit_turn, no_digit, digits_done, too_large}
 use Rattle.properties.specs.Decimals.{decimal_of}
 use Rattle.properties.proofs.decimal.read_decimal.Goals as goal
-use Rattle.properties.proofs.decimal.read_decimal.Goals.{After-wide}
+use Rattle.properties.proofs.decimal.read_decimal.Goals.{After-wide, then-is_empty-via-then-is_empty, then-is_empty-via-else-is_empty+then-digits-s}
 
-on : (c : After-wide) → decimal_of c.args.digits c.args.most c.args.s.now ≡ digits_left c.args.most (c.loop-i.n * 10 + c.wide.result) (drop (c.loop-i.i + 1) c.args.s.now)
-on c =
-    let l = c.loop-i in
-    let s = c.args.s.now in
-    let high : get_or s l.i 0 ≤ 57 = omega arith in
-    rw c.wide.ensures.0 (digit_turn c.args.most s l.i l.n _ l.invariant.0 c.loop-i-test.true c.in-48-to-57.if-b-lt48-own.false high)
+some_digits : {r : Bool} (n : ℕ) → r ≡ eqb n 0 → r ≡ false → n ≡ 0 → ⊥
+some_digits n e h = eqb-false n 0 (sym e ∙ h)
 
-pub returns-then-s-lt1 : goal.returns-then-s-lt1
-returns-then-s-lt1 c = sym (no_digits _ _ _ c.if-s-lt1.true)
+on : (c : After-wide) → decimal_of c.args.digits c.args.most c.args.s.now ≡ digits_left c.args.most (c.loop-b.n * 10 + c.wide.result) (drop (c.loop-b.b-index + 1) c.args.s.now)
+on c = rw c.wide.ensures.0 (digit_turn c.args.most c.args.s.now c.loop-b.b-index c.loop-b.n _ c.loop-b.invariant.0 c.loop-b-test.true (sym c.is_ascii_digit.ensures.value ∙ c.if-not-is_ascii_digit.false))
 
-pub returns-then-digits-s : goal.returns-then-digits-s
-returns-then-digits-s c = sym (too_many _ _ _ c.if-s-lt1.false c.if-digits-s.true)
+pub returns-then-is_empty : goal.returns-then-is_empty
+returns-then-is_empty c = elim c.then-is_empty.branch [
+  | then-is_empty-via-then-is_empty w ↦ sym (no_digits _ _ _ (eqb-true _ _ (sym c.is_empty.ensures ∙ w.if-is_empty.true)))
+  | then-is_empty-via-else-is_empty+then-digits-s w ↦ sym (too_many _ _ _ (some_digits _ c.is_empty.ensures w.if-is_empty.false) w.if-digits-s.true)
+]
 
-pub loop-i-init : goal.loop-i-init
-loop-i-init c = (digits_begin _ _ _ c.if-s-lt1.false c.if-digits-s.false, omega arith)
+pub loop-b-init : goal.loop-b-init
+loop-b-init c = (digits_begin _ _ _ (some_digits _ c.is_empty.ensures c.if-is_empty.false) c.if-digits-s.false, omega arith)
 
-pub overflow_mul-n : goal.overflow_mul-n
-overflow_mul-n c = omega (arith, c.loop-i.invariant.1, c.ranges.most)
+pub returns-then-not-is_ascii_digit : goal.returns-then-not-is_ascii_digit
+returns-then-not-is_ascii_digit c = no_digit _ _ _ _ _ c.loop-b.invariant.0 c.loop-b-test.true (sym c.is_ascii_digit.ensures.value ∙ c.if-not-is_ascii_digit.true)
 
-pub overflow_add-n : goal.overflow_add-n
-overflow_add-n c = omega (arith, c.loop-i.invariant.1, c.ranges.most, c.wide.ensures.1)
+pub returns-then-from-n : goal.returns-then-from-n
+returns-then-from-n c = too_large _ _ (c.loop-b.b-index + 1) _ _ (on ((goal.at.returns-then-from-n c).After-wide)) (omega arith)
 
-pub returns-in_default : goal.returns-in_default
-returns-in_default c = digit_low _ _ _ _ _ c.loop-i.invariant.0 c.loop-i-test.true c.in_default.if-b-lt48-own.true
-
-pub returns-in_default-2 : goal.returns-in_default-2
-returns-in_default-2 c =
-    let l = c.loop-i in
-    let s = c.args.s.now in
-    let high : 57 < get_or s l.i 0 = omega arith in
-    digit_high c.args.most s l.i l.n _ l.invariant.0 c.loop-i-test.true c.in_default.if-b-lt48-own.false high
-
-pub returns-then-most-n : goal.returns-then-most-n
-returns-then-most-n c = too_large _ _ (c.loop-i.i + 1) _ _ (on ((goal.at.returns-then-most-n c).After-wide)) c.if-most-n.true
-
-pub overflow_add-i : goal.overflow_add-i
-overflow_add-i c = omega arith
-
-pub loop-i-smaller : goal.loop-i-smaller
-loop-i-smaller c = omega arith
-
-pub loop-i-preserved : goal.loop-i-preserved
-loop-i-preserved c = (on ((goal.at.loop-i-preserved c).After-wide), c.if-most-n.false)
+pub loop-b-preserved : goal.loop-b-preserved
+loop-b-preserved c = (on ((goal.at.loop-b-preserved c).After-wide), omega arith)
 
 pub returns : goal.returns
-returns c = digits_done _ _ _ _ _ c.loop-i.invariant.0 c.loop-i-test.false c.loop-i.invariant.1
+returns c = digits_done _ _ _ _ _ c.loop-b.invariant.0 c.loop-b-test.false c.loop-b.invariant.1

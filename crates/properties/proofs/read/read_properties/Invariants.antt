@@ -1,7 +1,5 @@
 -- `properties::read::read_properties` meets its contract: the whole says what the lines left say, behind what those passed gave. Assumes nothing.
-use Prim.Native.Nat.{◌≤◌}
-use mathlib.Core.Path.{◌≡◌}
-use lib.ListN.{length}
+use Rattle.std.proofs.Common.{◌≡◌, ◌≤◌, length}
 use Rattle.base.specs.Cuts.{pieces}
 use Rattle.properties.proofs.PropertyLaws.{lines_left}
 use Rattle.properties.specs.Properties.{properties_of}

@@ -1,19 +1,12 @@
--- `script::line::number` meets its contract: the digits left follow the number of those passed. Assumes nothing.
-use native.Mathlib.Omega.{arith}
-use Rattle.script.proofs.NumberLaws.{number-begin, number_turn, number_done}
+-- `script::line::number` meets its contract: the digits are taken in one by one. Assumes nothing.
+use Rattle.std.proofs.Common.{◌∙◌, rules}
+use Rattle.std.proofs.lemmas.Iterator.{YieldsList-from_slice}
+use Rattle.std.proofs.lemmas.Iterator.Consumers.{fold_from_yields_List}
+use Rattle.script.proofs.NumberLaws.{number_folded}
+use Rattle.script.specs.Numbers.{with_byte}
 use Rattle.script.proofs.line.number.Goals as goal
 
-pub loop-i-init : goal.loop-i-init
-loop-i-init c = (number-begin _, omega arith)
-
-pub overflow_add-i : goal.overflow_add-i
-overflow_add-i c = omega arith
-
-pub loop-i-smaller : goal.loop-i-smaller
-loop-i-smaller c = omega arith
-
-pub loop-i-preserved : goal.loop-i-preserved
-loop-i-preserved c = (number_turn _ _ _ _ c.loop-i.invariant.0 _ c.loop-i-test.true c.with_byte-n.ensures, omega arith)
-
 pub returns : goal.returns
-returns c = number_done _ _ _ _ c.loop-i.invariant.0 c.loop-i-test.false c.loop-i.invariant.1
+returns c =
+    fold_from_yields_List _ with_byte 0 _ c.fold.ensures.ran (YieldsList-from_slice c.args.s.now cc) (λ a x b q k. search rules)
+    ∙ number_folded c.args.s.now

@@ -6,8 +6,8 @@ use Rattle.base.specs.Output.{largest}
 use Rattle.script.specs.Messages.{message_of}
 use Rattle.script.proofs.message.frames_length.Given as goal
 
-abbrev pub invariant-loop-n : goal.invariant-loop-n
-invariant-loop-n l = min (length (message_of l.line)) largest ≡ min (l.n + length (message_of l.rest)) largest
+abbrev pub invariant-loop-front : goal.invariant-loop-front
+invariant-loop-front l = min (length (message_of l.line)) largest ≡ min (l.n + length (message_of l.rest)) largest
 
-abbrev pub decreases-loop-n : goal.decreases-loop-n
-decreases-loop-n l = length l.rest
+abbrev pub decreases-loop-front : goal.decreases-loop-front
+decreases-loop-front l = length l.rest

@@ -7,7 +7,7 @@ pub returns-in-48-to-57 : goal.returns-in-48-to-57
 returns-in-48-to-57 c = (digit_number _ (omega arith) (omega arith) (omega arith), omega arith)
 
 pub returns-in-97-to-102 : goal.returns-in-97-to-102
-returns-in-97-to-102 c = (digit_letter _ (omega arith) (omega arith) (omega arith), omega arith)
+returns-in-97-to-102 c = (digit_letter _ (omega arith) (omega arith) (omega arith) (omega arith), omega arith)
 
 pub returns-in_default : goal.returns-in_default
 returns-in_default c = (digit_low _ (omega arith) (omega arith), omega arith)

@@ -10,32 +10,18 @@ pub loop-i-init : goal.loop-i-init
 loop-i-init c =
     let a = c.args in
     let n = expiry_count a.count a.stamps.now in
-    (omega arith, due_end a.tick.0 (expiries_of a.count a.stamps.now) a.count (omega arith))
-
-pub overflow_sub-i : goal.overflow_sub-i
-overflow_sub-i c = omega arith
-
-pub expiry_at-requires : goal.expiry_at-requires
-expiry_at-requires c = omega arith
-
-pub earlier_of-first-requires : goal.earlier_of-first-requires
-earlier_of-first-requires c = tt
-
-pub loop-i-smaller : goal.loop-i-smaller
-loop-i-smaller c = omega arith
+    due_end a.tick.0 (expiries_of a.count a.stamps.now) a.count (omega arith)
 
 pub loop-i-preserved : goal.loop-i-preserved
 loop-i-preserved c =
     let l = c.loop-i in
     let a = c.args in
-    let n = expiry_count a.count a.stamps.now in (
-      omega arith,
-      due_step a.tick.0 (expiries_of a.count a.stamps.now) l.i _ (omega arith) (omega arith)
-          (c.expiry_at.ensures ∙ sym (expiry_is a.count a.stamps.now _ (omega arith))) c.earlier_of-first.ensures l.invariant.1,
-    )
+    let n = expiry_count a.count a.stamps.now in
+    due_step a.tick.0 (expiries_of a.count a.stamps.now) l.i _ (omega arith) (omega arith)
+    (c.expiry_at.ensures ∙ sym (expiry_is a.count a.stamps.now _ (omega arith))) c.earlier_of-first.ensures l.invariant
 
 pub returns : goal.returns
 returns c =
     let l = c.loop-i in
     let e : l.i ≡ 0 = omega arith in
-    rw e at l.invariant.1
+    rw e at l.invariant

@@ -3,6 +3,7 @@ use Prim.Native.Nat.{ℕ}
 use mathlib.Core.List.{List, ◌++◌}
 use mathlib.Core.Option.{none}
 use mathlib.Core.Path.{◌≡◌, sym, ap, ◌∙◌}
+use Rattle.std.proofs.lemmas.Result.{err_from_is_err_and}
 use Rattle.answers.proofs.VerdictLaws.{accepted, refused, past_refused}
 use Rattle.answers.specs.Refusals.{verdict}
 use Rattle.answers.specs.declared.refusal.Refusal.{Refusal}
@@ -20,7 +21,7 @@ use Rattle.server_state.specs.IllFormed.{ill_forms}
 use Rattle.server_state.specs.Views.{lent}
 use Rattle.server_state.specs.declared.Server.{Server}
 use Rattle.server_snapshot.proofs.plan.check_request.Goals as goal
-use Rattle.server_snapshot.proofs.plan.check_request.Goals.{In-Accept, In-Accept-check_icanhaz, Start}
+use Rattle.server_snapshot.proofs.plan.check_request.Goals.{In_ok-check_state, In_ok-check_icanhaz, Start}
 
 abbrev server : (c : Start) → Server
 server s = lent s.args.bytes.now s.args.lengths.now s.args.stamps.now s.args.header
@@ -37,30 +38,35 @@ body s k = body_in s.args.msg.now s.args.split.places k
 abbrev room : (c : Start) → List (Check Refusal)
 room s = room_checks (length_rows s.args.header.count s.args.bytes.now s.args.lengths.now) (body s 0) (body s 2) s.args.room
 
-well : (c : In-Accept) → first_refusal (state ((goal.at.In-Accept c).Start)) ≡ none
-well c = accepted (first_refusal (state ((goal.at.In-Accept c).Start))) (sym c.in-Accept.is ∙ c.check_state.ensures)
+well : (c : In_ok-check_state) → first_refusal (state ((goal.at.In_ok-check_state c).Start)) ≡ none
+well c = accepted _ (sym c.in_ok-check_state.was ∙ c.check_state.ensures)
 
-taken : (c : In-Accept-check_icanhaz) → first_refusal (port ((goal.at.In-Accept-check_icanhaz c).Start)) ≡ none
-taken c = accepted (first_refusal (port ((goal.at.In-Accept-check_icanhaz c).Start))) (sym c.in-Accept-check_icanhaz.is ∙ c.check_icanhaz.ensures)
+taken : (c : In_ok-check_icanhaz) → first_refusal (port ((goal.at.In_ok-check_icanhaz c).Start)) ≡ none
+taken c = accepted _ (sym c.in_ok-check_icanhaz.was ∙ c.check_icanhaz.ensures)
 
 pub check_room-requires : goal.check_room-requires
 check_room-requires c =
     let s = (goal.at.check_room-requires c).Start in
-    let f = both_passed (framed_by 3 s.args.split.framing) (icanhaz_checks (body s 0) (body s 1) (body s 2)) (taken ((goal.at.check_room-requires c).In-Accept-check_icanhaz)) in
-    ((good_server (server s) (well ((goal.at.check_room-requires c).In-Accept))).rows, request-short (body s 0) (body s 1) (body s 2) f.1)
+    let f = both_passed (framed_by 3 s.args.split.framing) (icanhaz_checks (body s 0) (body s 1) (body s 2)) (taken ((goal.at.check_room-requires c).In_ok-check_icanhaz)) in
+    ((good_server (server s) (well ((goal.at.check_room-requires c).In_ok-check_state))).rows, request-short (body s 0) (body s 1) (body s 2) f.1)
 
-pub returns-in-Refuse : goal.returns-in-Refuse
+pub returns-in_err-check_state : goal.returns-in_err-check_state
 unfolding request_checks
-returns-in-Refuse c = past_refused verdict (state ((goal.at.returns-in-Refuse c).Start)) (port ((goal.at.returns-in-Refuse c).Start) ++ room ((goal.at.returns-in-Refuse c).Start)) _ (sym c.in-Refuse.is ∙ c.check_state.ensures)
+returns-in_err-check_state c =
+    let s = (goal.at.returns-in_err-check_state c).Start in
+    let p = err_from_is_err_and c.from_residual.result c.from_residual.ensures.1 in
+    rw (p.1, p.2) (past_refused verdict (state s) (port s ++ room s) _ (sym c.in_err-check_state.was ∙ c.check_state.ensures))
 
-pub returns-in-Refuse-check_icanhaz : goal.returns-in-Refuse-check_icanhaz
+pub returns-in_err-check_icanhaz : goal.returns-in_err-check_icanhaz
 unfolding request_checks
-returns-in-Refuse-check_icanhaz c =
-    let s = (goal.at.returns-in-Refuse-check_icanhaz c).Start in
-    sym (ap verdict (stop-second (state s) (port s) (room s) (well ((goal.at.returns-in-Refuse-check_icanhaz c).In-Accept)) _ (refused _ (first_refusal (port s)) (sym c.in-Refuse-check_icanhaz.is ∙ c.check_icanhaz.ensures))))
+returns-in_err-check_icanhaz c =
+    let s = (goal.at.returns-in_err-check_icanhaz c).Start in
+    let p = err_from_is_err_and c.from_residual-in_err-check_icanhaz.result c.from_residual-in_err-check_icanhaz.ensures.1 in
+    let stopped = refused _ (first_refusal (port s)) (sym c.in_err-check_icanhaz.was ∙ c.check_icanhaz.ensures) in
+    rw (p.1, p.2) (sym (ap verdict (stop-second (state s) (port s) (room s) (well ((goal.at.returns-in_err-check_icanhaz c).In_ok-check_state)) _ stopped)))
 
-pub returns-in-Accept-check_icanhaz : goal.returns-in-Accept-check_icanhaz
+pub returns : goal.returns
 unfolding request_checks
-returns-in-Accept-check_icanhaz c =
-    let s = (goal.at.returns-in-Accept-check_icanhaz c).Start in
-    c.check_room.ensures ∙ sym (ap verdict (reach_third (state s) (port s) (room s) (well ((goal.at.returns-in-Accept-check_icanhaz c).In-Accept)) (taken ((goal.at.returns-in-Accept-check_icanhaz c).In-Accept-check_icanhaz))))
+returns c =
+    let s = (goal.at.returns c).Start in
+    c.check_room.ensures ∙ sym (ap verdict (reach_third (state s) (port s) (room s) (well ((goal.at.returns c).In_ok-check_state)) (taken ((goal.at.returns c).In_ok-check_icanhaz))))

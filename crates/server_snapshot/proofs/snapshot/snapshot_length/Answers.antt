@@ -21,7 +21,7 @@ pub loop-i-init : goal.loop-i-init
 loop-i-init c =
     let s = (goal.at.loop-i-init c).Start in
     let n = length-rows s.args.count s.args.bytes.now s.args.lengths.now in
-    (omega arith, length_end s.args.identity s.args.subtree.now (rows s) s.args.count c.frame_length-head.ensures (omega arith) c.message_length.ensures c.add_lengths-total.ensures)
+    length_end s.args.identity s.args.subtree.now (rows s) s.args.count c.frame_length-head.ensures (omega arith) c.message_length.ensures c.add_lengths-total.ensures
 
 pub key_at-key-requires : goal.key_at-key-requires
 key_at-key-requires c =
@@ -39,17 +39,17 @@ loop-i-preserved-then-is_under c =
     let s = (goal.at.loop-i-preserved-then-is_under c).Start in
     let l = c.loop-i in
     let r = length-row s.args.count s.args.bytes.now s.args.lengths.now l.i (l.i - 1) (omega arith) (omega arith) c.key_at-key.ensures c.value_length_at-value.ensures in
-    (omega arith, length_in s.args.identity s.args.subtree.now (rows s) l.i c.frame_length-head.ensures l.invariant.1 (l.i - 1) _ _ r (sym c.is_under.ensures ∙ c.if-is_under.true) c.message_length-row.ensures c.add_lengths.ensures c.add_lengths-total-then-is_under.ensures)
+    length_in s.args.identity s.args.subtree.now (rows s) l.i c.frame_length-head.ensures l.invariant (l.i - 1) _ _ r (sym c.is_under.ensures ∙ c.if-is_under.true) c.message_length-row.ensures c.add_lengths.ensures c.add_lengths-total-then-is_under.ensures
 
 pub loop-i-preserved : goal.loop-i-preserved
 loop-i-preserved c =
     let s = (goal.at.loop-i-preserved c).Start in
     let l = c.loop-i in
     let r = length-row s.args.count s.args.bytes.now s.args.lengths.now l.i (l.i - 1) (omega arith) (omega arith) c.key_at-key.ensures refl in
-    (omega arith, length-out s.args.identity s.args.subtree.now (rows s) l.i c.frame_length-head.ensures l.invariant.1 (l.i - 1) _ _ r (sym c.is_under.ensures ∙ c.if-is_under.false))
+    length-out s.args.identity s.args.subtree.now (rows s) l.i c.frame_length-head.ensures l.invariant (l.i - 1) _ _ r (sym c.is_under.ensures ∙ c.if-is_under.false)
 
 pub returns : goal.returns
 returns c =
     let s = (goal.at.returns c).Start in
     let e : c.loop-i.i ≡ 0 = omega arith in
-    c.loop-i.invariant.1 ∙ ap (λ (j : ℕ). min (snapshot_length s.args.identity s.args.subtree.now (drop j (rows s))) largest) e
+    c.loop-i.invariant ∙ ap (λ (j : ℕ). min (snapshot_length s.args.identity s.args.subtree.now (drop j (rows s))) largest) e

@@ -1,6 +1,6 @@
 -- `server_snapshot::snapshot::snapshot_length` meets its contract: the total is that of the rows from the place reached
 -- on. Assumes nothing.
-use Prim.Native.Nat.{◌≤◌, min}
+use Prim.Native.Nat.{min}
 use mathlib.Core.Path.{◌≡◌}
 use lib.ListN.{drop}
 use Rattle.base.specs.Output.{largest}
@@ -9,8 +9,4 @@ use Rattle.server_snapshot.specs.Requests.{length_rows}
 use Rattle.server_snapshot.proofs.snapshot.snapshot_length.Given as goal
 
 abbrev pub invariant-loop-i : goal.invariant-loop-i
-invariant-loop-i l =
-    (l.i ≤ l.count) × (l.total ≡ min (snapshot_length l.identity l.subtree (drop l.i (length_rows l.count l.bytes l.lengths))) largest)
-
-abbrev pub decreases-loop-i : goal.decreases-loop-i
-decreases-loop-i l = l.i
+invariant-loop-i l = l.total ≡ min (snapshot_length l.identity l.subtree (drop l.i (length_rows l.count l.bytes l.lengths))) largest

@@ -22,12 +22,12 @@ whole : (c : After-loop-i) → Written c.args.out.now 0 (syncs c.args.identity.n
 whole c =
     let s = (goal.at.After-loop-i c).Start in
     let n = row_count (state s) in
-    rows_end s.args.identity.now s.args.subtree.now s.args.out.now (row_list (state s)) c.loop-i.i (omega arith) c.loop-i.invariant.1
+    rows_end s.args.identity.now s.args.subtree.now s.args.out.now (row_list (state s)) c.loop-i.i (omega arith) c.loop-i.invariant
 
 pub loop-i-init : goal.loop-i-init
 loop-i-init c =
     let s = (goal.at.loop-i-init c).Start in
-    (omega arith, rows_start s.args.identity.now s.args.subtree.now s.args.out.now (row_list (state s)))
+    rows_start s.args.identity.now s.args.subtree.now s.args.out.now (row_list (state s))
 
 pub key_at-key-requires : goal.key_at-key-requires
 key_at-key-requires c =
@@ -51,13 +51,7 @@ write_row-at-requires c =
     let s = (goal.at.write_row-at-requires c).Start in
     let l = c.loop-i in
     let r = entry_row (state s) l.i c.loop-i-test.true c.key_at-key.ensures c.value_at-value.ensures in
-    sync-fits s.args.identity.now _ _ c.number_at.ensures _ _ (row_room s.args.identity.now s.args.subtree.now s.args.out.now (row_list (state s)) s.requires.1 l.i _ _ r l.invariant.1 (sym c.is_under.ensures ∙ c.if-is_under.true))
-
-pub overflow_add-i : goal.overflow_add-i
-overflow_add-i c = omega arith
-
-pub loop-i-smaller : goal.loop-i-smaller
-loop-i-smaller c = omega arith
+    sync-fits s.args.identity.now _ _ c.number_at.ensures _ _ (row_room s.args.identity.now s.args.subtree.now s.args.out.now (row_list (state s)) s.requires.1 l.i _ _ r l.invariant (sym c.is_under.ensures ∙ c.if-is_under.true))
 
 pub loop-i-preserved : goal.loop-i-preserved
 loop-i-preserved c =
@@ -65,13 +59,11 @@ loop-i-preserved c =
     let l = c.loop-i in
     let u = c.is_under.ensures in
     let k = c.key_at-key.ensures in
-    let t = c.loop-i-test.true in (
-      omega arith,
-      elim c.if-is_under.branch [
-        | then-is_under w ↦ row_in s.args.identity.now s.args.subtree.now s.args.out.now (row_list (state s)) s.requires.1 l.i _ _ (entry_row (state s) l.i t k w.value_at-value.ensures) l.invariant.1 (sym u ∙ w.if-is_under.true) (sync_as s.args.identity.now _ _ w.number_at.ensures w.write_row-at.ensures) w.out-is w.at-is
-        | else-is_under w ↦ row_out s.args.identity.now s.args.subtree.now s.args.out.now (row_list (state s)) s.requires.1 l.i _ _ (entry_row (state s) l.i t k refl) l.invariant.1 (sym u ∙ w.if-is_under.false) w.out-is w.at-is
-      ],
-    )
+    let t = c.loop-i-test.true in
+    elim c.if-is_under.branch [
+      | then-is_under w ↦ row_in s.args.identity.now s.args.subtree.now s.args.out.now (row_list (state s)) s.requires.1 l.i _ _ (entry_row (state s) l.i t k w.value_at-value.ensures) l.invariant (sym u ∙ w.if-is_under.true) (sync_as s.args.identity.now _ _ w.number_at.ensures w.write_row-at.ensures) w.out-is w.at-is
+      | else-is_under w ↦ row_out s.args.identity.now s.args.subtree.now s.args.out.now (row_list (state s)) s.requires.1 l.i _ _ (entry_row (state s) l.i t k refl) l.invariant (sym u ∙ w.if-is_under.false) w.out-is w.at-is
+    ]
 
 pub shape_of-out : goal.shape_of-out
 shape_of-out c = kept_length (whole ((goal.at.shape_of-out c).After-loop-i)) (omega (arith, c.requires.1))

@@ -1,6 +1,5 @@
 -- `server_snapshot::snapshot::write_rows` meets its contract: the rows before the place reached are written. Assumes
 -- nothing.
-use Prim.Native.Nat.{◌≤◌, ◌-◌}
 use lib.ListN.{take}
 use Rattle.base.specs.Output.{Written}
 use Rattle.server_calls.specs.Snapshots.{syncs}
@@ -9,7 +8,4 @@ use Rattle.server_snapshot.proofs.snapshot.write_rows.Given as goal
 
 abbrev pub invariant-loop-i : goal.invariant-loop-i
 invariant-loop-i l =
-    (l.i ≤ l.header.count) × Written l.initial.out 0 (syncs l.identity l.subtree (take l.i (row_list (lent l.bytes l.lengths l.stamps l.header)))) l.at l.out
-
-abbrev pub decreases-loop-i : goal.decreases-loop-i
-decreases-loop-i l = l.header.count - l.i
+    Written l.initial.out 0 (syncs l.identity l.subtree (take l.i (row_list (lent l.bytes l.lengths l.stamps l.fn.header)))) l.at l.out

@@ -14,41 +14,21 @@ use Rattle.server_state.proofs.validate.are_stamped.Goals as goal
 
 pub loop-i-init : goal.loop-i-init
 unfolding every
-loop-i-init c = (omega arith, refl)
-
-pub number_at-requires : goal.number_at-requires
-number_at-requires c = omega arith
-
-pub is_above-above-requires : goal.is_above-above-requires
-is_above-above-requires c = tt
-
-pub expiry_at-requires : goal.expiry_at-requires
-expiry_at-requires c = omega arith
-
-pub is_expiry-requires : goal.is_expiry-requires
-is_expiry-requires c = tt
-
-pub overflow_add-i : goal.overflow_add-i
-overflow_add-i c = omega arith
-
-pub loop-i-smaller : goal.loop-i-smaller
-loop-i-smaller c = omega arith
+loop-i-init c = refl
 
 pub loop-i-preserved : goal.loop-i-preserved
 loop-i-preserved c =
     let l = c.loop-i in
     let a = c.args in
-    let n = length-cells stamp_count a.count a.stamps.now in (
-      omega arith,
-      stamped-more a.number.0 (cells stamp_count a.count a.stamps.now) l.i l.good (cell_at stamp_count l.i a.stamps.now)
-          (cell-at stamp_count a.count l.i a.stamps.now [] (omega arith)) (omega arith) l.invariant.1
-          (c.is_above-above.ensures ∙ ap (ltb a.number.0) c.number_at.ensures)
-          (c.is_expiry.ensures ∙ ap is_expiry c.expiry_at.ensures),
-    )
+    let n = length-cells stamp_count a.count a.stamps.now in
+    stamped-more a.number.0 (cells stamp_count a.count a.stamps.now) l.i l.good (cell_at stamp_count l.i a.stamps.now)
+    (cell-at stamp_count a.count l.i a.stamps.now [] (omega arith)) (omega arith) l.invariant
+    (c.is_above-above.ensures ∙ ap (ltb a.number.0) c.number_at.ensures)
+    (c.is_expiry.ensures ∙ ap is_expiry c.expiry_at.ensures)
 
 pub returns : goal.returns
 returns c =
     let l = c.loop-i in
     let a = c.args in
     let n = length-cells stamp_count a.count a.stamps.now in
-    l.invariant.1 ∙ ap (every (stamped a.number.0)) (take_all l.i (cells stamp_count a.count a.stamps.now) (omega arith))
+    l.invariant ∙ ap (every (stamped a.number.0)) (take_all l.i (cells stamp_count a.count a.stamps.now) (omega arith))

@@ -1,5 +1,4 @@
 -- `server_state::validate::are_stamped` meets its contract: the flag tells of the rows passed, and of all at the end. Assumes nothing.
-use Prim.Native.Nat.{◌≤◌, ◌-◌}
 use mathlib.Core.Path.{◌≡◌}
 use lib.ListN.{take}
 use Rattle.base.specs.Bytes.{every}
@@ -9,7 +8,4 @@ use Rattle.server_state.specs.Stamps.{stamp_count}
 use Rattle.server_state.proofs.validate.are_stamped.Given as goal
 
 abbrev pub invariant-loop-i : goal.invariant-loop-i
-invariant-loop-i l = (l.i ≤ l.count) × (l.good ≡ every (stamped l.number.0) (take l.i (cells stamp_count l.count l.stamps)))
-
-abbrev pub decreases-loop-i : goal.decreases-loop-i
-decreases-loop-i l = l.count - l.i
+invariant-loop-i l = l.good ≡ every (stamped l.number.0) (take l.i (cells stamp_count l.count l.stamps))
