@@ -62,6 +62,7 @@ fn check_hugz_frames(msg: &[u8], places: Places) -> Result<(), Refusal>
 }
 
 // The frames of a HUGZ, or else of a KVPUB.
+#[tactic(auto, unfolding(crate::specs::Readings::beat_of, crate::specs::Readings::published_of))]
 fn read_published_frames(msg: &[u8], places: Places) -> Result<Published, Refusal>
     ensures { result ≡ published_of (fields_at msg.now places)
         (first_refusal (published_checks (fields_at msg.now places))) }
