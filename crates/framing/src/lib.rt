@@ -95,7 +95,7 @@ pub fn body(msg: &[u8], places: Places, k: usize) -> &[u8]
 {
     match places.bodies.get(k) {
         Some(body) => bytes::front(bytes::behind(msg, body.start), body.len),
-        None => &[],
+        None => &msg[..0],
     }
 }
 
@@ -108,6 +108,6 @@ pub fn first_message(s: &[u8]) -> &[u8]
         // Two arms: of one for both the proof was not found.
         Ok(_) => bytes::front(s, stop),
         Err(Flaw::Surplus) => bytes::front(s, stop),
-        Err(Flaw::Broken) => &[],
+        Err(Flaw::Broken) => &s[..0],
     }
 }

@@ -33,7 +33,7 @@ order_is (a ∷ s) [] = refl
 order_is (a ∷ s) (b ∷ t) = first_decides a b s t ∙ ap (ordering_then (nat_cmp a b)) (order_is s t)
 
 -- what a pass over bytes keeps: as long as all were alike, the order is that of what is left
-equal_byte : (a b : Bytes) (i : ℕ) → i < length a → i < length b → get_or a i 0 ≡ get_or b i 0 → order_of (drop i a) (drop i b) ≡ order_of (drop (i + 1) a) (drop (i + 1) b)
+pub equal_byte : (a b : Bytes) (i : ℕ) → i < length a → i < length b → get_or a i 0 ≡ get_or b i 0 → order_of (drop i a) (drop i b) ≡ order_of (drop (i + 1) a) (drop (i + 1) b)
 unfolding order_of
 equal_byte a b i ha hb e = rw (drop-cons a i 0 ha, drop-cons b i 0 hb, add-one, e) (grind (arith, nat_tests))
 

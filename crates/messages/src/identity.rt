@@ -19,6 +19,6 @@ pub fn without_identity(msg: &[u8]) -> &[u8]
 {
     match frame_reader::frame_at(msg, 0) {
         Some(frame) => bytes::behind(msg, frame.start + frame.len),
-        None => &[],
+        None => &msg[..0],
     }
 }

@@ -14,9 +14,9 @@ pub fn number(rt: &impl Print, label: &[u8], n: u64) -> io::Result<()> {
 
 // A line with a heading, and an empty line in front of it.
 pub fn heading(rt: &impl Print, t: &[u8]) -> io::Result<()> {
-    print!(rt; "\n# ")?;
+    text(rt, b"\n# ")?;
     text(rt, t)?;
-    println!(rt)
+    text(rt, b"\n")
 }
 
 // A line with what some bytes are: how many, and each in hexadecimal.

@@ -12,12 +12,12 @@ use lib.Seq.{drop-cons}
 use Rattle.std.specs.Ordering.{is_ge}
 use Rattle.std.specs.declared.cmp.Ordering.TheVariants.{Less, Equal, Greater}
 use Rattle.std.specs.declared.cmp.Ordering.{Ordering}
-use Rattle.base.specs.Bytes.{Bytes, every}
+use Rattle.base.specs.Bytes.{Bytes, every, prefix}
 use Rattle.base.specs.Cuts.{pieces}
 use Rattle.key_order.specs.Order.{order_of}
 use Rattle.rows.specs.Rows.{rising, is_less}
 use Rattle.frame_forms.specs.Lengths.{value_room}
-use Rattle.keys.specs.Keys.{key_room, is_key}
+use Rattle.keys.specs.Keys.{key_room, is_key, under}
 use Rattle.row_cells.specs.Faults.{fitting}
 use Rattle.row_cells.specs.Texts.{key_length, value_length}
 
@@ -42,6 +42,12 @@ module _ {A : Type 0} (test : A → Bool) where
   every-but [] d i k e = absurd (not-suc-le-zero k)
   every-but (x ∷ l) d zero k e = rw e
   every-but (x ∷ l) d (suc i) k e = rw (every-but l d i (le_of_suc-le-suc k) e, and-false (test x))
+
+-- all keys are under the subtree that has no bytes
+pub under_empty : (p : Bytes) (l : List Bytes) → length p ≡ 0 → every (under p) l ≡ true
+unfolding prefix
+under_empty [] l e = every_place (under []) l [] (λ i h. refl)
+under_empty (x ∷ p) l e = absurd (omega (arith, e))
 
 -- a flag, after the lengths of one row more
 pub fitting-more : (cs : List (List ℕ)) (i : ℕ) (good : Bool) (cell : List ℕ) → get_or cs i [] ≡ cell → i < length cs → good ≡ every fitting (take i cs)

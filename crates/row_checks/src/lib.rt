@@ -49,7 +49,7 @@ fn are_sorted_keys<'a>(bytes: &'a RowBytes, lengths: &'a RowLengths, count: usiz
     true
 }
 
-// Whether the first count keys are under a subtree.
+// Whether the first count keys are under a subtree. Under the empty one all are, and none is looked at.
 pub fn are_under<'a>(
     bytes: &'a RowBytes,
     lengths: &'a RowLengths,
@@ -60,7 +60,8 @@ pub fn are_under<'a>(
     ensures { result
         ≡ every (under subtree.now) (keys_of count bytes.now lengths.now) }
 {
-    (0..count).all(|i| keys::is_under(subtree, text::key_at(bytes, lengths, i)))
+    subtree.is_empty()
+        || (0..count).all(|i| keys::is_under(subtree, text::key_at(bytes, lengths, i)))
 }
 
 // Whether the first count rows are well-formed. Bytes after a key or a value, and rows from the count on, do not

@@ -19,20 +19,29 @@ pub(crate) fn judge_lines(rt: &impl Print, s: &[u8]) -> io::Result<()> {
     Ok(())
 }
 
-// A line is known by its first byte. The message lies in a fixed array, since those that write it take lent bytes.
+// A line is known by its first byte.
 fn judge_line(rt: &impl Print, line: &[u8]) -> io::Result<()> {
     let rest = bytes::behind(line, 2);
-    let label = line::field(rest, 0);
-    let told = line::behind_bars(rest, 1);
+    match line.first() {
+        None => Ok(()),
+        Some(b'&') => build::build_line(rt, rest),
+        Some(b'=') => judge_message(rt, rest, false),
+        Some(b'+') => judge_message(rt, rest, true),
+        Some(_) => print::heading(rt, rest),
+    }
+}
+
+// The message behind a label, told by its frames or by its bytes. It lies in a fixed array, since those that write it
+// take lent bytes; the array is made here, so that a line without a message clears none.
+fn judge_message(rt: &impl Print, line: &[u8], framed: bool) -> io::Result<()> {
+    let told = line::behind_bars(line, 1);
     let mut msg = [0; 2048];
-    let n = match line.first() {
-        None => return Ok(()),
-        Some(b'&') => return build::build_line(rt, rest),
-        Some(b'=') => text::decode(told, &mut msg),
-        Some(b'+') => message::write_frames(told, &mut msg),
-        Some(_) => return print::heading(rt, rest),
+    let n = if framed {
+        message::write_frames(told, &mut msg)
+    } else {
+        text::decode(told, &mut msg)
     };
-    judge(rt, label, bytes::front(&msg, n))
+    judge(rt, line::field(line, 0), bytes::front(&msg, n))
 }
 
 // What the value entries and the ports make of a message: the number of the refusal, or 0. Then its frames.

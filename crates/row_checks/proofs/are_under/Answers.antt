@@ -6,6 +6,7 @@ use mathlib.Core.Bool.{Bool, true, false}
 use mathlib.Core.List.{List, []}
 use mathlib.Core.Path.{◌≡◌, refl, sym, ap, ◌∙◌}
 use borrow.Author.Rules.{rules}
+use borrow.Author.Tests.{eqb-true}
 use lib.ListN.{length, get_or}
 use Rattle.std.proofs.lemmas.Iterator.{serves_from_Range, cases_from_all, YieldsList-from_range}
 use Rattle.std.proofs.lemmas.List.FromFn.{length-range_with_len, get_or-range_with_len}
@@ -15,7 +16,7 @@ use Rattle.base.specs.Bytes.{Bytes, every}
 use Rattle.keys.specs.Keys.{under}
 use Rattle.row_cells.proofs.TextLaws.{key_is, keys_long, key-most_at}
 use Rattle.row_cells.specs.Texts.{keys_of, row_key}
-use Rattle.row_checks.proofs.PassLaws.{every_place, every-but}
+use Rattle.row_checks.proofs.PassLaws.{every_place, every-but, under_empty}
 use Rattle.row_checks.proofs.are_under.Goals as goal
 
 -- what `all` says of the places of a list
@@ -32,8 +33,13 @@ all-requires-clause-callable c =
     let few = c.requires.few in
     serves_from_Range (λ x q h. search rules) (λ x lo hi κ p n e u f t l. (omega arith, key-most_at c.args.count c.args.lengths.now c.requires.fit x hi))
 
-pub returns : goal.returns
-returns c =
+pub returns-then-is_empty : goal.returns-then-is_empty
+returns-then-is_empty c =
+    let none = eqb-true _ _ (sym c.is_empty.ensures ∙ c.if-is_empty.true) in
+    c.if-is_empty.true ∙ sym (under_empty c.args.subtree.now (keys_of c.args.count c.args.bytes.now c.args.lengths.now) none)
+
+pub returns-else-is_empty : goal.returns-else-is_empty
+returns-else-is_empty c =
     let a = c.args in
     let ks = keys_of a.count a.bytes.now a.lengths.now in
     let many = keys_long a.count a.bytes.now a.lengths.now in
